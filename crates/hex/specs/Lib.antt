@@ -1,0 +1,4 @@
+pub mod Digits
+pub mod Short
+pub mod Text
+pub mod Parsing

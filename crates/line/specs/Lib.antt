@@ -1,0 +1,5 @@
+pub mod Reply
+pub mod Collecting
+pub mod Store
+pub mod Wires
+pub mod Sending
