@@ -1,0 +1,4 @@
+pub mod Stretching
+pub mod Cutting
+pub mod Histories
+pub mod Keeping

@@ -1,0 +1,6 @@
+mod Days
+mod Elapsed
+mod Others
+mod Sums
+mod Tests
+mod Weekdays
