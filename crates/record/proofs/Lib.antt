@@ -1,0 +1,4 @@
+pub mod Rows
+pub mod Logged
+pub mod Counted
+pub mod Records

@@ -1,0 +1,5 @@
+mod Arms
+mod Clocks
+mod Limits
+mod Others
+mod ReadBack

@@ -1,0 +1,4 @@
+mod Fronts
+mod Bytes
+mod Calls
+mod Lengths
