@@ -18,7 +18,7 @@ const WIRE_BYTES: usize = 80;
 const SERIAL: [u8; 8] = [0; 8];
 
 #[derive(Drop)]
-pub struct Bench {
+pub(crate) struct Bench {
     recorder: Recorder<Asynchronous>,
     log: [u8; Log::BYTES],
     journal: [JournalEntry; Journal::ENTRIES],
@@ -26,30 +26,50 @@ pub struct Bench {
 
 impl Bench {
     /// A new recorder.
-    pub fn new() -> Result<Bench, Refusal> {
+    pub(crate) fn new() -> Result<Bench, Refusal> {
         let mut log = [0; Log::BYTES];
         let mut journal = [JournalEntry::blank(); Journal::ENTRIES];
         match Recorder::make(&mut log, &mut journal, Asynchronous::new(), SERIAL) {
-            Ok(recorder) => Ok(Bench { recorder, log, journal }),
+            Ok(recorder) => Ok(Bench {
+                recorder,
+                log,
+                journal,
+            }),
             Err(not_made) => Err(not_made.refusal),
         }
     }
 
     /// Performs a call, and answers with a line.
-    pub fn perform(&mut self, call: Call) -> ShortBytes {
+    pub(crate) fn perform(&mut self, call: Call) -> ShortBytes {
         match call {
             Call::Byte(byte) => {
-                done(self.recorder.byte(&mut self.log, &mut self.journal, byte)).text()
+                let answer = self.recorder.byte(&mut self.log, &mut self.journal, byte);
+                done(answer).text()
             }
             Call::Gap => {
                 self.recorder.gap();
                 done(Ok(())).text()
             }
-            Call::Second { temperature, one, two, three } => {
-                let codes = Codes { temperature, one, two, three };
-                done(self.recorder.second(&mut self.log, &mut self.journal, codes)).text()
+            Call::Second {
+                temperature,
+                one,
+                two,
+                three,
+            } => {
+                let codes = Codes {
+                    temperature,
+                    one,
+                    two,
+                    three,
+                };
+                let answer = self.recorder
+                    .second(&mut self.log, &mut self.journal, codes);
+                done(answer).text()
             }
-            Call::Press => pressed(self.recorder.press(&mut self.log, &mut self.journal)).text(),
+            Call::Press => {
+                let answer = self.recorder.press(&mut self.log, &mut self.journal);
+                pressed(answer).text()
+            }
             Call::Collect => self.collect(),
         }
     }
@@ -68,7 +88,7 @@ impl Bench {
 fn done<'a>(answer: Result<(), Refusal>) -> Answer<'a> {
     match answer {
         Ok(()) => Answer::Done,
-        Err(refusal) => Answer::Refused(refusal.number()),
+        Err(refusal) => refused(refusal),
     }
 }
 
@@ -76,17 +96,17 @@ fn done<'a>(answer: Result<(), Refusal>) -> Answer<'a> {
 fn pressed<'a>(answer: Result<bool, Refusal>) -> Answer<'a> {
     match answer {
         Ok(started) => Answer::Pressed(started),
-        Err(refusal) => Answer::Refused(refusal.number()),
+        Err(refusal) => refused(refusal),
     }
 }
 
 /// The answer of a call that is refused.
-pub fn refused<'a>(refusal: Refusal) -> Answer<'a> {
+pub(crate) fn refused<'a>(refusal: Refusal) -> Answer<'a> {
     Answer::Refused(refusal.number())
 }
 
 /// The answer to a line that names no call.
-pub fn bad<'a>() -> Answer<'a> {
+pub(crate) fn bad<'a>() -> Answer<'a> {
     Answer::Bad
 }
 
