@@ -1,5 +1,5 @@
 -- What a side holds of a history, and how one more set changes it. The number of records kept is m.
-use Rattle.std.specs.Prelude.{◌≡◌, ℕ, ◌+◌, ◌-◌, Bool, true, false, cond, ◌&&◌, List, [], ◌∷◌, ◌++◌, length, set, replicate, nat_le, nat_lt, slice_index_or, slice_set}
+use Rattle.std.specs.Prelude.{◌≡◌, ℕ, ◌+◌, ◌-◌, Bool, true, false, cond, ◌&&◌, List, [], ◌∷◌, ◌++◌, length, replicate, nat_le, nat_lt, slice_index_or, slice_set}
 use Rattle.alarm.specs.declared.record.AlarmRecord.{AlarmRecord}
 use Rattle.alarm.specs.Pieces.{pieces, kept, blank, last_length, stamp_of}
 

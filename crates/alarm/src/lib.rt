@@ -1,4 +1,6 @@
 //! The alarm records of one side of a limit: the stretches of sample sets at or past the limit, cut into pieces.
+#![tactic(auto)]
+
 mod figures;
 mod record;
 mod table;

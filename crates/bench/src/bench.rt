@@ -1,5 +1,5 @@
 //! A recorder on the asynchronous line, with the memories that it is lent.
-use hex::ShortBytes;
+use hex_text::ShortBytes;
 use line::{Asynchronous, Line};
 use memory::{Journal, JournalEntry, Log};
 use mission::Codes;

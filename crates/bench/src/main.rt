@@ -1,10 +1,12 @@
 //! Performs the calls of a script on a new recorder, and prints what comes of each.
 //!
 //! Each line of standard input names a call, and its answer is printed before the next line is waited for.
+#![tactic(auto)]
+
 mod bench;
 
 use crate::bench::{Bench, bad, refused};
-use hex::ShortBytes;
+use hex_text::ShortBytes;
 use script::Call;
 use std::io;
 use std::io::{BufRead, BufReader, Write};

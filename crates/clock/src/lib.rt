@@ -1,4 +1,5 @@
 //! A calendar clock of the years 2000 to 2099, read and written register by register in BCD.
+#![tactic(auto)]
 
 mod bcd;
 mod calendar;

@@ -1,6 +1,5 @@
 -- What received bytes say: a command is one code byte and the parameter bytes behind it.
 use Rattle.std.specs.Prelude.{ℕ, ◌+◌, ◌*◌, Bool, true, false, cond, ◌||◌, List, [], ◌∷◌, ◌==◌}
-use Rattle.command.specs.declared.command.Command.{Command}
 use Rattle.command.specs.declared.command.Command.TheVariants.{Write, Read, ReadSensors, Clear}
 use Rattle.command.specs.declared.command.Heard.{Heard}
 use Rattle.command.specs.declared.command.Heard.TheVariants.{Part, Whole, Unknown}

@@ -1,4 +1,6 @@
 //! Commands: a code byte and the parameter bytes behind it, as they arrive one by one.
+#![tactic(auto)]
+
 mod command;
 mod received;
 

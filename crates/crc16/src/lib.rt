@@ -1,4 +1,6 @@
 //! CRC-16: polynomial x^16 + x^15 + x^2 + 1, start 0, least significant bit first, not inverted.
+#![tactic(auto)]
+
 mod table;
 
 ghost use Rattle.std.specs.Prelude.{◌≡◌, ◌/◌, ◌%◌, [], ◌∷◌, ◌++◌};

@@ -2,6 +2,8 @@
 //!
 //! A kind names its reading, how many bins it has and the bin of a reading. Counting is written and
 //! proved once, in `Histogram`, for every kind.
+#![tactic(auto)]
+
 mod codes;
 mod figures;
 mod histograms;

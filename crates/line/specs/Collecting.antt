@@ -1,5 +1,5 @@
 -- What is answered and written where a reply is collected, and where the far end checks it.
-use Rattle.std.specs.Prelude.{ℕ, Bool, true, false, cond, List, [], ◌∷◌, ◌++◌, length, drop, Some, None, Ok, Err, Option, Result, nat_lt}
+use Rattle.std.specs.Prelude.{ℕ, cond, List, ◌++◌, length, drop, Some, None, Ok, Err, Option, Result, nat_lt}
 use Rattle.refusal.specs.declared.refusal.Refusal.{Refusal}
 use Rattle.refusal.specs.declared.refusal.Refusal.TheVariants.{NothingWaits, TooShort, BadWire}
 use Rattle.refusal.specs.declared.refusal.Shortage.TheVariants.{Line}

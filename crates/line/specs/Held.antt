@@ -1,7 +1,7 @@
 -- What a store holds: that it is sound, and one byte more.
-use Rattle.std.specs.Prelude.{◌≡◌, ℕ, ◌+◌, ◌<◌, ◌≤◌, Bool, true, false, cond, ◌||◌, ◌⊎◌, List, [], ◌∷◌, ◌++◌, length, take, replicate, ◌≢◌, nat_le, slice_index, slice_set, refl}
+use Rattle.std.specs.Prelude.{◌≡◌, ℕ, ◌+◌, ◌<◌, ◌≤◌, Bool, false, ◌⊎◌, List, [], ◌∷◌, ◌++◌, length, take, replicate, ◌≢◌, nat_le, slice_index, slice_set}
 use Rattle.std.proofs.Common.{sym, ap, ◌∙◌, inl, inr, arith}
-use Rattle.std.proofs.lemmas.List.{take_more_set, length-take-le, length-replicate, length-set, get_or-take, get_or_past, get_or-replicate, get_or-set_same, get_or-set_other}
+use Rattle.std.proofs.lemmas.List.{take_more_set, length-take-le, length-replicate, get_or-take, get_or_past, get_or-replicate, get_or-set_same, get_or-set_other}
 use Rattle.std.proofs.lemmas.Bool.{cases_lt, cases_eq, cond-false, or_from, lt-leb}
 use Rattle.line.specs.declared.store.Store.{Store}
 use Rattle.line.specs.Reply.{Reply, reply, Bytes, Sound, full, put_after}

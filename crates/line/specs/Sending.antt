@@ -1,5 +1,5 @@
 -- What is sent over a line, and what becomes of it on its way to the far end.
-use Rattle.std.specs.Prelude.{◌≡◌, ℕ, Bool, true, false, cond, List, [], length, take, Ok, Err, Result, nat_le, nat_lt}
+use Rattle.std.specs.Prelude.{◌≡◌, ℕ, true, false, cond, List, length, take, Ok, Err, Result, nat_le, nat_lt}
 use Rattle.refusal.specs.declared.refusal.Refusal.{Refusal}
 use Rattle.refusal.specs.declared.refusal.Refusal.TheVariants.{LineFull, NothingWaits}
 use Rattle.line.specs.Reply.{Reply, reply, emptied}

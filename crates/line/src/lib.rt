@@ -1,4 +1,6 @@
 //! The lines of the service cable: each carries one reply of at most 32 data bytes to a far end, which checks it.
+#![tactic(auto)]
+
 pub mod asynchronous;
 pub mod line;
 pub mod sending;

@@ -8,7 +8,7 @@ use refusal::Refusal;
 /// Empties the line, and makes these bytes its reply that waits.
 pub fn send<L: Line>(line: &mut L, bytes: &[u8]) -> Result<(), Refusal>
     ensures answer { result ≡ send_answer bytes.now }
-    ensures after { L.Line.meaning line.new ≡ send_after bytes.now }
+    ensures after { L.meaning line.new ≡ send_after bytes.now }
 {
     line.open();
     for byte in bytes {
@@ -26,7 +26,7 @@ pub fn round_trip<L: Line>(
     buffer: &mut [u8],
     out: &mut [u8],
 ) -> Result<usize, Refusal>
-    ensures { Travelled bytes.now (L.Line.wire bytes.now) (trip_of bytes.now (L.Line.wire bytes.now) (length buffer.old) (length out.old)) result (L.Line.meaning line.new) buffer.old buffer.new out.old out.new }
+    ensures { Travelled bytes.now (L.wire bytes.now) (trip_of bytes.now (L.wire bytes.now) (length buffer.old) (length out.old)) result (L.meaning line.new) buffer.old buffer.new out.old out.new }
 {
     send(line, bytes)?;
     let n = line.collect(buffer)?;

@@ -1,7 +1,7 @@
 -- The log: rows of w bytes in a memory of 2,048 bytes. Row i, counted from 0 through the whole mission, begins at byte
 -- w × (i mod capacity).
 use Rattle.std.specs.Prelude.{◌≡◌, ℕ, ◌+◌, ◌*◌, ◌/◌, ◌%◌, ◌<◌, ◌≤◌, min, Bool, true, false, cond, not, ◌||◌, ◌⊎◌, List, length, take, ◌==◌, nat_le, slice_index, slice_index_or}
-use Rattle.std.specs.List.{flat_map, AllByRecursion as All}
+use Rattle.std.specs.List.{flat_map, AllByRecursion}
 use Rattle.ring.specs.History.{ring_of}
 use Rattle.ring.specs.Steps.{stored_all, advanced_all}
 use Rattle.memory.specs.declared.row.Row.{Row}
@@ -42,7 +42,7 @@ capacity w = 2048 / w
 
 -- The rows of one mission have one width.
 abbrev pub Wide : ℕ → List Row → Type 0
-Wide w rows = All (λ row. width_of row ≡ w) rows
+Wide w rows = AllByRecursion (λ row. width_of row ≡ w) rows
 
 -- The rows that go into the log: all rows with roll-over on, and with it off the first that fit.
 abbrev pub written : Bool → ℕ → List Row → List Row

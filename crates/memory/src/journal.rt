@@ -21,7 +21,7 @@ impl Journal {
     /// A journal with no event: over a memory of 16 blank entries it stands for the empty history.
     pub fn new() -> Self
         ensures place { result.next ≡ 0 }
-        ensures* entries { do ⌜ (← (⟦Self::ENTRIES⟧).exit) ≡ 16 ⌝ }
+        ensures entries { Self.ENTRIES ≡ 16 }
         ensures law { (memory : List JournalEntry) → length memory ≡ 16 → memory ≡ replicate (length memory) blank_entry
             → JournalStands [] memory result.next }
     {

@@ -1,4 +1,6 @@
 //! The two memories that the recorder is lent: the journal of events, and the log of sample rows.
+#![tactic(auto)]
+
 mod event;
 mod journal;
 mod log;

@@ -25,7 +25,7 @@ impl Log {
     pub fn new() -> Self
         ensures place { result.next ≡ 0 }
         ensures full { result.full ≡ false }
-        ensures* bytes { do ⌜ (← (⟦Self::BYTES⟧).exit) ≡ 2048 ⌝ }
+        ensures bytes { Self.BYTES ≡ 2048 }
         ensures law { (roll : Bool) (w : ℕ) (memory : List ℕ) → Width w → length memory ≡ 2048 → memory ≡ replicate (length memory) 0
             → LogStands roll w [] memory result.next result.full }
     {

@@ -1,4 +1,6 @@
 //! A mission: its setting at the start, and the schedule by which it takes sample sets.
+#![tactic(auto)]
+
 mod channels;
 mod codes;
 mod figures;

@@ -14,7 +14,7 @@ use Rattle.recorder.specs.Contents.{whole_memories}
 use Rattle.recorder.specs.State.{heard_answer, byte_answer, second_answer, press_answer}
 use Rattle.recorder.specs.Control.{press_starts}
 use Rattle.model.specs.declared.calls.Answer.{Answer}
-use Rattle.model.specs.declared.calls.Answer.TheVariants.{Done, Pressed, Collected, Refused}
+use Rattle.model.specs.declared.calls.Answer.TheVariants.{Done, Pressed, Refused}
 use Rattle.model.specs.declared.calls.Call.{Call}
 use Rattle.model.specs.declared.calls.Call.TheVariants.{Byte, Gap, Second, Press, Collect}
 use Rattle.model.specs.Model.{Model, with_received}

@@ -1,5 +1,5 @@
 -- Starts, stops, clears and samples of what stands for a model.
-use Rattle.std.proofs.Common.{◌≡◌, ℕ, ◌+◌, ◌%◌, ◌≤◌, Bool, true, false, cond, List, [], ◌∷◌, ◌++◌, length, Some, None, Option, sym, refl, ap, ◌∙◌}
+use Rattle.std.proofs.Common.{◌≡◌, ℕ, ◌+◌, ◌%◌, ◌≤◌, Bool, true, false, List, [], ◌∷◌, ◌++◌, length, Some, None, Option, sym, refl, ap, ◌∙◌}
 use Rattle.counter.specs.Counting.{counted}
 use Rattle.memory.specs.Events.{journal_of}
 use Rattle.memory.specs.declared.event.EventKind.{EventKind}

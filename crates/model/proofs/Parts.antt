@@ -1,5 +1,5 @@
 -- The parts of what stands for a model, each with one more of what it derives from.
-use Rattle.std.proofs.Common.{◌≡◌, ℕ, ◌+◌, ◌-◌, ◌%◌, ◌<◌, ◌≤◌, min, Bool, true, false, cond, ◌&&◌, eqb, ltb, leb, List, [], ◌∷◌, ◌++◌, length, replicate, sym, refl, ap, ◌∙◌, arith, lit<}
+use Rattle.std.proofs.Common.{◌≡◌, ℕ, ◌+◌, ◌%◌, ◌<◌, ◌≤◌, true, List, [], ◌∷◌, ◌++◌, length, replicate, refl, arith, lit<}
 use native.Mathlib.Nat.{sub-zero}
 use Rattle.std.proofs.lemmas.List.FromFn.{length-map-range_with_len}
 use Rattle.std.proofs.lemmas.Bool.{le-ltb, lt-ltb, le-leb, eq-eqb, and_from}
@@ -8,19 +8,17 @@ use Rattle.counter.specs.Counting.{counted}
 use Rattle.line.specs.Reply.{reply}
 use Rattle.line.specs.Sending.{send_after}
 use Rattle.memory.specs.Events.{journal_of, blank_entry}
-use Rattle.memory.specs.Rows.{bytes_of}
-use Rattle.memory.specs.Logs.{written}
 use Rattle.memory.specs.declared.event.JournalEntry.{JournalEntry}
 use Rattle.memory.proofs.Events.{event_noted}
 use Rattle.memory.specs.Events.{JournalStands}
-use Rattle.mission.specs.Schedule.{Countdown, due, taken, ticked}
+use Rattle.mission.specs.Schedule.{due, taken, ticked}
 use Rattle.mission.proofs.Countdowns.{rolled}
 use Rattle.ring.specs.Steps.{stored, advanced}
 use Rattle.ring.proofs.Rings.{ring_of_stands, blank_at_first}
 use Rattle.record.specs.Histories.{record_of}
 use Rattle.record.specs.Sets.{SampleSet, Rules}
 use Rattle.recorder.specs.Contents.{Contents, whole_memories}
-use Rattle.recorder.specs.Control.{Running, running_by}
+use Rattle.recorder.specs.Control.{running_by}
 use Rattle.recorder.specs.Map.{map_at, page_from, page_rest}
 use Rattle.registers.specs.Contents.{Contents as Registers}
 use Rattle.model.specs.Model.{Model, Plan, plan_by}

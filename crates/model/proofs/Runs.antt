@@ -7,7 +7,6 @@ use Rattle.record.specs.Contents.{Contents as Record}
 use Rattle.record.specs.Histories.{record_of}
 use Rattle.record.proofs.Records.{record_none}
 use Rattle.registers.specs.Contents.{new_contents}
-use Rattle.recorder.specs.Contents.{Contents}
 use Rattle.recorder.specs.Control.{rules_by}
 use Rattle.recorder.specs.State.{State, state, made_state}
 use Rattle.model.specs.declared.calls.Answer.{Answer}

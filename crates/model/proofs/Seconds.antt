@@ -1,20 +1,20 @@
 -- Seconds, and presses of the button.
-use Rattle.std.proofs.Common.{◌≡◌, ℕ, ◌+◌, ◌≤◌, Bool, true, false, cond, ◌&&◌, ltb, Some, Option, refl, ap, ◌∙◌}
+use Rattle.std.proofs.Common.{◌≡◌, ◌+◌, ◌≤◌, Bool, true, false, cond, ◌&&◌, ltb, Some, refl, ap, ◌∙◌}
 use Rattle.std.proofs.lemmas.Bool.{and_parts, ltb-true, cond_both}
 use Rattle.clock.specs.Ticking.{rolls_over}
 use Rattle.mission.specs.Channels.{any_on}
-use Rattle.mission.specs.Schedule.{Countdown, due, taken, ticked}
+use Rattle.mission.specs.Schedule.{Countdown, due, taken}
 use Rattle.mission.specs.Setting.{can_run}
 use Rattle.mission.specs.declared.codes.Codes.{Codes}
 use Rattle.registers.specs.Contents.{Contents as Registers, with_ready}
 use Rattle.registers.specs.Steps.{by_button, channels_on, tick_after, latch_after, count_down_after}
 use Rattle.recorder.specs.Contents.{Contents, with_registers, with_mission}
-use Rattle.recorder.specs.Control.{Running, press_starts}
+use Rattle.recorder.specs.Control.{press_starts}
 use Rattle.recorder.specs.Seconds.{sampled, rolled, rolled_in, passed, pressed}
 use Rattle.recorder.specs.State.{state}
 use Rattle.model.specs.Model.{Model, with_registers as model_with, with_sensing as model_sensing, rolls}
-use Rattle.model.specs.Rules.{sampled as model_sampled, served as model_served, rolled as model_rolled, passed as model_passed, pressed as model_pressed}
-use Rattle.model.proofs.Invariants.{Keeps, Sound}
+use Rattle.model.specs.Rules.{served as model_served, rolled as model_rolled, passed as model_passed, pressed as model_pressed}
+use Rattle.model.proofs.Invariants.{Sound}
 use Rattle.model.specs.Stand.{countdown_at, running_at, contents_of, stand}
 use Rattle.model.proofs.Changes.{set_running, started_stands, sampled_stands}
 use Rattle.model.proofs.Parts.{countdown_takes, countdown_more}

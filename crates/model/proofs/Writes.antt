@@ -1,5 +1,5 @@
 -- Writes of registers, which may stop a mission and start one.
-use Rattle.std.proofs.Common.{◌≡◌, ℕ, ◌-◌, ◌<◌, Bool, true, false, cond, not, ◌&&◌, eqb, ltb, List, [], set, is_ok, Ok, Err, sym, refl, ap, ◌∙◌, subst}
+use Rattle.std.proofs.Common.{◌≡◌, ℕ, ◌-◌, ◌<◌, Bool, true, false, cond, not, ◌&&◌, eqb, ltb, [], set, is_ok, Err, sym, refl, ap, ◌∙◌, subst}
 use Rattle.std.proofs.lemmas.Bool.{false≢true, and_from, and_parts, eqb-true, ltb-true, lt-ltb, cond-true, cond_both}
 use Rattle.mission.specs.Channels.{any_on, bit}
 use Rattle.mission.specs.Setting.{can_run}

@@ -1,5 +1,5 @@
 -- Laws over whole runs.
-use Rattle.std.specs.Prelude.{◌≡◌, ℕ, ◌+◌, ◌-◌, ◌<◌, ◌≤◌, Bool, true, false, ◌&&◌, ◌||◌, ◌↔◌, List, [], ◌∷◌, ◌++◌, length, get_or, take, replicate, Some, None, Option, nat_lt, slice_index_or, slice_range}
+use Rattle.std.specs.Prelude.{◌≡◌, ℕ, ◌+◌, ◌-◌, ◌<◌, ◌≤◌, Bool, true, false, ◌&&◌, ◌||◌, ◌↔◌, List, [], ◌∷◌, ◌++◌, length, get_or, take, replicate, Some, Option, nat_lt, slice_index_or, slice_range}
 use Rattle.command.specs.Commands.{heard_of}
 use Rattle.command.specs.declared.command.Command.TheVariants.{Read}
 use Rattle.command.specs.declared.command.Heard.TheVariants.{Whole}
@@ -11,7 +11,7 @@ use Rattle.model.specs.declared.calls.Call.TheVariants.{Byte, Gap}
 use Rattle.model.specs.declared.calls.Outcome.{Outcome}
 use Rattle.model.specs.Model.{Model, fresh}
 use Rattle.model.specs.Stand.{stand}
-use Rattle.model.specs.Runs.{ends, story}
+use Rattle.model.specs.Runs.{ends}
 
 -- ---- counts
 

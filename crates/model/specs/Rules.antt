@@ -1,25 +1,22 @@
 -- What each call makes of the model, and what it answers.
-use Rattle.std.specs.Prelude.{ℕ, ◌+◌, Bool, true, false, cond, not, ◌&&◌, List, [], ◌∷◌, ◌++◌, map, is_ok, Ok, Err, Result, nat_lt}
+use Rattle.std.specs.Prelude.{ℕ, Bool, true, false, cond, ◌&&◌, [], ◌∷◌, ◌++◌, is_ok, Ok, Err, Result, nat_lt}
 use Rattle.clock.specs.Ticking.{rolls_over}
-use Rattle.command.specs.Commands.{heard_of}
 use Rattle.command.specs.declared.command.Command.{Command}
 use Rattle.command.specs.declared.command.Command.TheVariants.{Write, Read, ReadSensors, Clear}
 use Rattle.command.specs.declared.command.Heard.{Heard}
 use Rattle.command.specs.declared.command.Heard.TheVariants.{Part, Whole, Unknown}
-use Rattle.line.specs.Reply.{Reply, reply, emptied}
+use Rattle.line.specs.Reply.{reply}
 use Rattle.memory.specs.declared.event.EventKind.TheVariants as kind
 use Rattle.mission.specs.Schedule.{due}
 use Rattle.mission.specs.declared.codes.Codes.{Codes}
-use Rattle.record.specs.Sets.{SampleSet}
 use Rattle.refusal.specs.declared.refusal.Refusal.{Refusal}
-use Rattle.refusal.specs.declared.refusal.Refusal.TheVariants.{MemoryLength, ReplyWaits, UnknownCommand, BadTemperature, OutsideMap, InMission, ClearDisabled}
-use Rattle.registers.specs.Contents.{Contents as Registers, with_ready}
+use Rattle.refusal.specs.declared.refusal.Refusal.TheVariants.{UnknownCommand, OutsideMap, InMission, ClearDisabled}
+use Rattle.registers.specs.Contents.{with_ready}
 use Rattle.registers.specs.Steps.{channels_on, tick_after, latch_after, count_down_after, take_enable_after, start_after, clear_after}
 use Rattle.registers.specs.Writing.{write_answer, write_after, stops as stopping}
 use Rattle.recorder.specs.Control.{entry, stop_kind, starts as starting, press_starts}
 use Rattle.recorder.specs.Map.{page_from}
 use Rattle.recorder.specs.Seconds.{sampled_registers}
-use Rattle.recorder.specs.State.{State}
 use Rattle.model.specs.Model.{Model, total_of, with_registers, with_received, with_line, with_sensing, starts, stops, clears, rolls, adds}
 use Rattle.model.specs.Stand.{stand}
 

@@ -1,9 +1,8 @@
 -- Whole runs: a fold of the model over a list of calls.
-use Rattle.std.specs.Prelude.{ℕ, ◌+◌, ◌-◌, Bool, true, false, cond, ◌&&◌, List, [], ◌∷◌, ◌++◌, length, replicate, is_ok, Ok, Err, Result, ◌==◌, nat_lt}
+use Rattle.std.specs.Prelude.{ℕ, Bool, cond, ◌&&◌, List, [], ◌∷◌, ◌++◌, replicate, is_ok, Ok, Err, Result, ◌==◌, nat_lt}
 use Rattle.command.specs.Commands.{heard_of}
 use Rattle.line.specs.Collecting.{over, collect_answer}
-use Rattle.line.specs.Reply.{Reply, emptied}
-use Rattle.mission.specs.declared.codes.Codes.{Codes}
+use Rattle.line.specs.Reply.{emptied}
 use Rattle.refusal.specs.declared.refusal.Refusal.{Refusal}
 use Rattle.refusal.specs.declared.refusal.Refusal.TheVariants.{MemoryLength, ReplyWaits, BadTemperature}
 use Rattle.recorder.specs.Control.{press_starts}

@@ -1,5 +1,5 @@
 -- What a recorder holds that stands for a model: everything recorded is derived from the histories.
-use Rattle.std.specs.Prelude.{ℕ, ◌+◌, ◌-◌, ◌%◌, Bool, true, false, cond, List, length, Some, None, Option, nat_lt}
+use Rattle.std.specs.Prelude.{ℕ, ◌-◌, ◌%◌, cond, length, Some, None, nat_lt}
 use Rattle.memory.specs.Events.{journal_of}
 use Rattle.mission.specs.Schedule.{Countdown}
 use Rattle.record.specs.Histories.{record_of}

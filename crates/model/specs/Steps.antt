@@ -1,12 +1,12 @@
 -- The same calls on what a recorder holds, with its own memories lent where a call says their lengths.
-use Rattle.std.specs.Prelude.{ℕ, Bool, true, false, cond, List, [], ◌∷◌, replicate, is_ok, Ok, Err, Result}
+use Rattle.std.specs.Prelude.{ℕ, Bool, cond, List, [], ◌∷◌, replicate, is_ok, Ok, Err, Result}
 use Rattle.line.specs.Collecting.{over, collect_answer}
 use Rattle.line.specs.Reply.{emptied}
 use Rattle.refusal.specs.declared.refusal.Refusal.{Refusal}
 use Rattle.refusal.specs.declared.refusal.Refusal.TheVariants.{MemoryLength}
 use Rattle.recorder.specs.State.{State, state, byte_answer, byte_after, gap_after, second_answer, second_after, press_answer, press_after}
 use Rattle.model.specs.declared.calls.Answer.{Answer}
-use Rattle.model.specs.declared.calls.Answer.TheVariants.{Done, Pressed, Collected, Refused}
+use Rattle.model.specs.declared.calls.Answer.TheVariants.{Done, Pressed, Refused}
 use Rattle.model.specs.declared.calls.Call.{Call}
 use Rattle.model.specs.declared.calls.Call.TheVariants.{Byte, Gap, Second, Press, Collect}
 use Rattle.model.specs.declared.calls.Outcome.{Outcome}

@@ -1,4 +1,6 @@
 //! The model recorder, made of histories, and whole runs of a recorder.
+#![tactic(auto)]
+
 mod calls;
 mod performing;
 mod running;

@@ -60,8 +60,8 @@ fn byte<L: Line>(
     byte: u8,
 ) -> Answer
     requires { lendable (length spare_log.old) (length spare_journal.old) n k ≡ true }
-    ensures answer { result ≡ call_answer wire (seen meaning recorder.old log.old journal.old) (Call.Byte n k byte) }
-    ensures after { seen meaning recorder.new log.new journal.new ≡ call_after wire (seen meaning recorder.old log.old journal.old) (Call.Byte n k byte) }
+    ensures answer { result ≡ call_answer L.wire (seen L.meaning recorder.old log.old journal.old) (Call.Byte n k byte) }
+    ensures after { seen L.meaning recorder.new log.new journal.new ≡ call_after L.wire (seen L.meaning recorder.old log.old journal.old) (Call.Byte n k byte) }
     ensures spare_log { spare_log.new ≡ spare_log.old }
     ensures spare_journal { spare_journal.new ≡ spare_journal.old }
 {
@@ -83,8 +83,8 @@ fn second<L: Line>(
     codes: Codes,
 ) -> Answer
     requires { lendable (length spare_log.old) (length spare_journal.old) n k ≡ true }
-    ensures answer { result ≡ call_answer wire (seen meaning recorder.old log.old journal.old) (Call.Second n k codes) }
-    ensures after { seen meaning recorder.new log.new journal.new ≡ call_after wire (seen meaning recorder.old log.old journal.old) (Call.Second n k codes) }
+    ensures answer { result ≡ call_answer L.wire (seen L.meaning recorder.old log.old journal.old) (Call.Second n k codes) }
+    ensures after { seen L.meaning recorder.new log.new journal.new ≡ call_after L.wire (seen L.meaning recorder.old log.old journal.old) (Call.Second n k codes) }
     ensures spare_log { spare_log.new ≡ spare_log.old }
     ensures spare_journal { spare_journal.new ≡ spare_journal.old }
 {
@@ -105,8 +105,8 @@ fn press<L: Line>(
     k: usize,
 ) -> Answer
     requires { lendable (length spare_log.old) (length spare_journal.old) n k ≡ true }
-    ensures answer { result ≡ call_answer wire (seen meaning recorder.old log.old journal.old) (Call.Press n k) }
-    ensures after { seen meaning recorder.new log.new journal.new ≡ call_after wire (seen meaning recorder.old log.old journal.old) (Call.Press n k) }
+    ensures answer { result ≡ call_answer L.wire (seen L.meaning recorder.old log.old journal.old) (Call.Press n k) }
+    ensures after { seen L.meaning recorder.new log.new journal.new ≡ call_after L.wire (seen L.meaning recorder.old log.old journal.old) (Call.Press n k) }
     ensures spare_log { spare_log.new ≡ spare_log.old }
     ensures spare_journal { spare_journal.new ≡ spare_journal.old }
 {
@@ -119,9 +119,9 @@ fn press<L: Line>(
 /// The reply that waits is collected into the front of `wire`.
 fn collect<L: Line>(recorder: &mut Recorder<L>, room: usize, wire: &mut [u8; WIRE_BYTES]) -> Answer
     requires { room ≤ 80 }
-    ensures answer { (log : List ℕ) (journal : List JournalEntry) → result ≡ call_answer L.Line.wire (seen meaning recorder.old log journal) (Call.Collect room) }
-    ensures after { (log : List ℕ) (journal : List JournalEntry) → seen meaning recorder.new log journal ≡ call_after L.Line.wire (seen meaning recorder.old log journal) (Call.Collect room) }
-    ensures wire { wire.new ≡ (if is_ok (collect_answer (L.Line.wire (meaning recorder.old.line).bytes) (meaning recorder.old.line) room) then over (L.Line.wire (meaning recorder.old.line).bytes) wire.old else wire.old) }
+    ensures answer { (log : List ℕ) (journal : List JournalEntry) → result ≡ call_answer L.wire (seen L.meaning recorder.old log journal) (Call.Collect room) }
+    ensures after { (log : List ℕ) (journal : List JournalEntry) → seen L.meaning recorder.new log journal ≡ call_after L.wire (seen L.meaning recorder.old log journal) (Call.Collect room) }
+    ensures wire { wire.new ≡ (if is_ok (collect_answer (L.wire (L.meaning recorder.old.line).bytes) (L.meaning recorder.old.line) room) then over (L.wire (L.meaning recorder.old.line).bytes) wire.old else wire.old) }
 {
     collected(recorder.collect(&mut wire[0..room]))
 }
@@ -136,8 +136,8 @@ pub(crate) fn perform<L: Line>(
     call: Call,
 ) -> Outcome
     requires { fits (length spare_log.old) (length spare_journal.old) call ≡ true }
-    ensures outcome { result ≡ call_outcome wire (seen meaning recorder.old log.old journal.old) call }
-    ensures after { seen meaning recorder.new log.new journal.new ≡ call_after wire (seen meaning recorder.old log.old journal.old) call }
+    ensures outcome { result ≡ call_outcome L.wire (seen L.meaning recorder.old log.old journal.old) call }
+    ensures after { seen L.meaning recorder.new log.new journal.new ≡ call_after L.wire (seen L.meaning recorder.old log.old journal.old) call }
     ensures spare_log { spare_log.new ≡ spare_log.old }
     ensures spare_journal { spare_journal.new ≡ spare_journal.old }
 {
@@ -170,9 +170,9 @@ fn answer<L: Line>(
     wire: &mut [u8; WIRE_BYTES],
 ) -> Answer
     requires { fits (length spare_log.old) (length spare_journal.old) call ≡ true }
-    ensures answer { result ≡ call_answer L.Line.wire (seen meaning recorder.old log.old journal.old) call }
-    ensures after { seen meaning recorder.new log.new journal.new ≡ call_after L.Line.wire (seen meaning recorder.old log.old journal.old) call }
-    ensures wire { wire.new ≡ wire_over L.Line.wire (seen meaning recorder.old log.old journal.old) call wire.old }
+    ensures answer { result ≡ call_answer L.wire (seen L.meaning recorder.old log.old journal.old) call }
+    ensures after { seen L.meaning recorder.new log.new journal.new ≡ call_after L.wire (seen L.meaning recorder.old log.old journal.old) call }
+    ensures wire { wire.new ≡ wire_over L.wire (seen L.meaning recorder.old log.old journal.old) call wire.old }
     ensures spare_log { spare_log.new ≡ spare_log.old }
     ensures spare_journal { spare_journal.new ≡ spare_journal.old }
 {

@@ -65,9 +65,9 @@ fn perform_all<L: Line>(
 )
     requires places { length notes.old ≡ length calls.now }
     requires fit { all_fit (length spare_log.old) (length spare_journal.old) calls.now ≡ true }
-    ensures notes { notes.new ≡ outcomes wire (seen meaning recorder.old log.old journal.old) calls.now }
-    ensures after { seen meaning recorder.new log.new journal.new ≡ run_after wire (seen meaning recorder.old log.old journal.old) calls.now }
-    ensures bytes { (i : ℕ) → i < length calls.now → Bytes (run_after wire (seen meaning recorder.old log.old journal.old) (take i calls.now)).line.bytes }
+    ensures notes { notes.new ≡ outcomes L.wire (seen L.meaning recorder.old log.old journal.old) calls.now }
+    ensures after { seen L.meaning recorder.new log.new journal.new ≡ run_after L.wire (seen L.meaning recorder.old log.old journal.old) calls.now }
+    ensures bytes { (i : ℕ) → i < length calls.now → Bytes (run_after L.wire (seen L.meaning recorder.old log.old journal.old) (take i calls.now)).line.bytes }
     ensures spare_log { spare_log.new ≡ spare_log.old }
     ensures spare_journal { spare_journal.new ≡ spare_journal.old }
 {
@@ -91,7 +91,7 @@ pub fn run<L: Line>(
     spare_journal: &mut [JournalEntry],
     notes: &mut [Outcome],
 ) -> Result<Recorder<L>, L>
-    ensures ran { MatchResult result (λ k. (runnable calls.now (length notes.old) (length spare_log.old) (length spare_journal.old) (length log.old) (length journal.old) ≡ true) × Ran meaning wire accepted serial calls.now k log.new journal.new notes.new) (λ l. (runnable calls.now (length notes.old) (length spare_log.old) (length spare_journal.old) (length log.old) (length journal.old) ≡ false) × (l ≡ line) × (log.new ≡ log.old) × (journal.new ≡ journal.old) × (notes.new ≡ notes.old)) }
+    ensures ran { MatchResult result (λ k. (runnable calls.now (length notes.old) (length spare_log.old) (length spare_journal.old) (length log.old) (length journal.old) ≡ true) × Ran L.meaning L.wire L.accepted serial calls.now k log.new journal.new notes.new) (λ l. (runnable calls.now (length notes.old) (length spare_log.old) (length spare_journal.old) (length log.old) (length journal.old) ≡ false) × (l ≡ line) × (log.new ≡ log.old) × (journal.new ≡ journal.old) × (notes.new ≡ notes.old)) }
     ensures spare_log { spare_log.new ≡ spare_log.old }
     ensures spare_journal { spare_journal.new ≡ spare_journal.old }
 {

@@ -15,7 +15,7 @@ use Rattle.record.proofs.Counted.{count_more, stamp_more, channel_more, channel_
 
 -- Contents are equal field by field.
 module _ {c c' : ℕ} {s s' : List ℕ} {n n' : ℕ} {f f' : Bool} {m m' ts ts' vs vs' : List ℕ} {tl tl' th th' ol ol' oh oh' : Held} where
-  same : c ≡ c' → s ≡ s' → n ≡ n' → f ≡ f' → m ≡ m' → ts ≡ ts' → vs ≡ vs' → tl ≡ tl' → th ≡ th' → ol ≡ ol' → oh ≡ oh'
+  pub same : c ≡ c' → s ≡ s' → n ≡ n' → f ≡ f' → m ≡ m' → ts ≡ ts' → vs ≡ vs' → tl ≡ tl' → th ≡ th' → ol ≡ ol' → oh ≡ oh'
       → ◌≡◌ {A = Contents}
       (record {
         current = c;

@@ -1,12 +1,13 @@
 -- The row of a set: with a channel on there is one, and it has the width that the channels give.
-use Rattle.std.proofs.Common.{◌≡◌, Bool, true, false, is_some, refl, inl, inr}
+use Rattle.std.proofs.Common.{◌≡◌, ℕ, ◌-◌, Bool, true, false, List, ◌++◌, take, is_some, Option, refl, ap, ◌∙◌, inl, inr, arith}
 use Rattle.std.proofs.lemmas.Bool.{both_ways}
 use Rattle.memory.specs.Rows.{row_of, width_of}
 use Rattle.memory.specs.Logs.{Width}
+use Rattle.memory.specs.declared.row.Row.{Row}
 use Rattle.mission.specs.Channels.{any_on, number_on, row_width}
 use Rattle.mission.specs.declared.channels.Channels.{Channels}
 use Rattle.mission.specs.declared.codes.Codes.{Codes}
-use Rattle.record.specs.Sets.{codes_on, row_with}
+use Rattle.record.specs.Sets.{codes_on, if_on, row_with}
 
 -- There is a row of the codes, it is as wide as the channels say, and that is one of the three widths.
 pub record Rowed (channels : Channels) (codes : Codes) : Type 0 where
@@ -42,3 +43,14 @@ rowed channels codes h = by_channels channels.temperature channels.one channels.
 -- The width does not depend on the codes.
 pub lawful_width : (channels : Channels) → any_on channels ≡ true → Width (row_width (number_on channels))
 lawful_width channels h = (rowed channels (record { temperature = 0; one = 0; two = 0; three = 0 }) h).lawful
+
+-- The codes that are on, put one behind another, are those of the row.
+pub row_put : (on : Channels) (codes : Codes) (count : ℕ) (bytes : List ℕ) {one two three : List ℕ} {row : Option Row}
+    → one ≡ if_on on.temperature codes.temperature → two ≡ one ++ if_on on.one codes.one → three ≡ two ++ if_on on.two codes.two
+    → take count bytes ≡ three ++ if_on on.three codes.three → row ≡ row_of (take (count - 0) bytes) → row ≡ row_of (codes_on on codes)
+row_put on codes count bytes a b c d e =
+    let whole : count - 0 ≡ count = omega arith in
+    e ∙ ap (λ (n : ℕ). row_of (take n bytes)) whole
+    ∙ ap row_of
+    (d ∙ ap (λ (l : List ℕ). l ++ if_on on.three codes.three)
+    (c ∙ ap (λ (l : List ℕ). l ++ if_on on.two codes.two) (b ∙ ap (λ (l : List ℕ). l ++ if_on on.one codes.one) a)))

@@ -1,4 +1,6 @@
 //! The record of a mission: everything that a clear empties.
+#![tactic(auto)]
+
 mod figures;
 mod record;
 

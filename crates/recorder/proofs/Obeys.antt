@@ -1,5 +1,5 @@
 -- What a write and a read leave, once the clear enable is used up.
-use Rattle.std.proofs.Common.{◌≡◌, ℕ, Bool, cond, ltb, ap, ◌∙◌, ap₂}
+use Rattle.std.proofs.Common.{◌≡◌, ℕ, cond, ltb, ap, ◌∙◌}
 use Rattle.command.specs.declared.command.Command.TheVariants.{Write, Read}
 use Rattle.line.specs.Reply.{Reply}
 use Rattle.line.specs.Sending.{send_after}
@@ -9,7 +9,7 @@ use Rattle.registers.specs.Steps.{take_enable_after}
 use Rattle.recorder.specs.Contents.{joined}
 use Rattle.recorder.specs.Control.{Controls, with_registers, written}
 use Rattle.recorder.specs.Map.{page_from}
-use Rattle.recorder.specs.State.{State, state, obeyed}
+use Rattle.recorder.specs.State.{state, obeyed}
 
 module _ (c : Controls) (recorded : Record) (m : Reply) (r : Registers) (used : r ≡ take_enable_after c.registers) where
   pub write_obeyed : (x : Controls) (a v : ℕ) → x ≡ written (with_registers c r) a v → state (joined x recorded) m ≡ obeyed (state (joined c recorded) m) (Write a v)

@@ -1,5 +1,5 @@
 -- What a recorder holds besides its line, together with the two memories that it is lent.
-use Rattle.std.specs.Prelude.{ℕ, Bool, true, false, ◌&&◌, List, [], length, replicate, is_some, Some, None, Option, ◌==◌}
+use Rattle.std.specs.Prelude.{ℕ, Bool, false, ◌&&◌, List, [], length, replicate, is_some, None, Option, ◌==◌}
 use Rattle.memory.specs.Events.{blank_entry}
 use Rattle.memory.specs.declared.event.JournalEntry.{JournalEntry}
 use Rattle.record.specs.Contents.{Contents as Record, seen as record_seen, empty_over}

@@ -1,5 +1,5 @@
 -- What a chip holds besides the record of sample sets, and how missions start and stop.
-use Rattle.std.specs.Prelude.{ℕ, Bool, true, false, cond, not, ◌&&◌, List, [], length, is_some, is_ok, Some, None, Option, ◌==◌, nat_lt}
+use Rattle.std.specs.Prelude.{ℕ, Bool, cond, not, ◌&&◌, List, length, is_some, is_ok, Some, None, Option, ◌==◌, nat_lt}
 use Rattle.command.specs.Receiving.{received}
 use Rattle.memory.specs.declared.event.EventKind.{EventKind}
 use Rattle.memory.specs.declared.event.EventKind.TheVariants.{Start, Stop, StatusStop}
@@ -7,8 +7,8 @@ use Rattle.memory.specs.declared.event.JournalEntry.{JournalEntry}
 use Rattle.mission.specs.Schedule.{Countdown, seen as countdown_of}
 use Rattle.mission.specs.Setting.{can_run}
 use Rattle.record.specs.Sets.{Rules, rules_of}
-use Rattle.registers.specs.Contents.{Contents as Registers, contents_of, with_ready}
-use Rattle.registers.specs.Steps.{by_button, channels_on, rolls_log_over, start_after, take_enable_after}
+use Rattle.registers.specs.Contents.{Contents as Registers, contents_of}
+use Rattle.registers.specs.Steps.{by_button, channels_on, rolls_log_over, start_after}
 use Rattle.registers.specs.Writing.{write_answer, write_after, stops}
 use Rattle.ring.specs.Steps.{stored, advanced}
 use Rattle.recorder.specs.declared.chip.Control.{Control}

@@ -1,5 +1,5 @@
 -- What a second does, and what a press of the button does.
-use Rattle.std.specs.Prelude.{ℕ, ◌+◌, Bool, true, false, cond, ◌&&◌, Some, None, Option}
+use Rattle.std.specs.Prelude.{◌+◌, Bool, true, false, cond, Some, None, Option}
 use Rattle.clock.specs.Ticking.{rolls_over}
 use Rattle.counter.specs.Counting.{counted}
 use Rattle.mission.specs.Schedule.{taken, ticked}

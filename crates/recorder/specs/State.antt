@@ -1,11 +1,11 @@
 -- What a recorder holds with its line, and what each call does to it, for every input and every memory that is lent.
-use Rattle.std.specs.Prelude.{ℕ, Bool, true, false, cond, List, [], ◌∷◌, ◌++◌, Ok, Err, Result, nat_lt}
+use Rattle.std.specs.Prelude.{ℕ, Bool, cond, List, [], ◌∷◌, ◌++◌, Ok, Err, Result, nat_lt}
 use Rattle.command.specs.Commands.{heard_of}
 use Rattle.command.specs.declared.command.Command.{Command}
 use Rattle.command.specs.declared.command.Command.TheVariants.{Write, Read, ReadSensors, Clear}
 use Rattle.command.specs.declared.command.Heard.{Heard}
 use Rattle.command.specs.declared.command.Heard.TheVariants.{Part, Whole, Unknown}
-use Rattle.line.specs.Reply.{Reply, reply, emptied}
+use Rattle.line.specs.Reply.{Reply, emptied}
 use Rattle.line.specs.Sending.{send_after}
 use Rattle.mission.specs.declared.codes.Codes.{Codes}
 use Rattle.refusal.specs.declared.refusal.Refusal.{Refusal}

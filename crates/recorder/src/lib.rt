@@ -1,4 +1,6 @@
 //! The recorder.
+#![tactic(auto)]
+
 mod chip;
 mod recorder;
 

@@ -9,7 +9,7 @@ use Rattle.registers.specs.declared.flags.FlagPair.{FlagPair}
 use Rattle.registers.specs.declared.flags.Flags.{Flags}
 use Rattle.registers.specs.declared.registers.Registers.{Registers}
 
--- The contents of the registers. Control 1 is held without its bit 6, which is `clear-enabled`, and
+-- The contents of the registers. Control 1 is held without its bit 6, which is `clear_enabled`, and
 -- Control 2 as it reads.
 pub record Contents : Type 0 where
   pub moment : Moment

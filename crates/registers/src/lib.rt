@@ -1,4 +1,6 @@
 //! The register file: what each register holds, what it shows, and which writes it takes.
+#![tactic(auto)]
+
 mod bits;
 mod clocking;
 mod flags;

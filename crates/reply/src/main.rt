@@ -1,7 +1,9 @@
 //! Sends pages over both lines of the service cable, and shows what the far end makes of them.
 //!
 //! Each line of standard input is a page: bytes of two upper-case hexadecimal digits, with one space between them.
-use hex::{read, write};
+#![tactic(auto)]
+
+use hex_text::{read, write};
 use line::{Asynchronous, Line, ThreeWire, send};
 use refusal::Refusal;
 use std::io;

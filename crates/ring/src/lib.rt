@@ -1,4 +1,6 @@
 //! A roll-over store over lent memory: it keeps the latest entries, and each new one takes the place of the oldest.
+#![tactic(auto)]
+
 mod store;
 
 ghost use Rattle.ring.specs.History.{BlankAtFirst, NoOtherStands, WrittenOutStands};

@@ -1,9 +1,9 @@
 -- Bytes at the front of a text, each after a space.
-use Rattle.std.proofs.Common.{◌≡◌, ℕ, zero, suc, ◌+◌, ◌*◌, ◌/◌, ◌%◌, ◌<◌, ◌≤◌, List, [], ◌∷◌, ◌++◌, length, get_or, drop, Some, None, Option, sym, refl, ap, ◌∙◌, ap₂, arith}
+use Rattle.std.proofs.Common.{◌≡◌, ℕ, suc, ◌+◌, ◌*◌, ◌/◌, ◌%◌, ◌<◌, ◌≤◌, List, [], ◌∷◌, length, get_or, drop, Some, None, Option, refl, ap, ◌∙◌, ap₂, arith}
 use Rattle.std.proofs.lemmas.Bool.Decides.{nat_tests}
-use Rattle.std.specs.List.{AllByRecursion as All}
-use Rattle.hex.specs.Digits.{digit_of, digit_char, paired, byte_of, high_digit, low_digit}
-use Rattle.hex.specs.Text.{spaced}
+use Rattle.std.specs.List.{AllByRecursion}
+use Rattle.hex_text.specs.Digits.{digit_of, digit_char, paired, byte_of, high_digit, low_digit}
+use Rattle.hex_text.specs.Text.{spaced}
 use Rattle.script.specs.Parsing.{Begins, NoByte}
 
 -- A digit that is read is the character of its value.
@@ -33,7 +33,7 @@ begins (x ∷ (h ∷ (l ∷ rest))) b k s e =
 
 -- The text is not that of n bytes.
 abbrev pub NoBytes : ℕ → List ℕ → Type 0
-NoBytes n text = (bs : List ℕ) → All (λ byte. byte < 256) bs → length bs ≡ n → text ≡ spaced bs → ⊥
+NoBytes n text = (bs : List ℕ) → AllByRecursion (λ byte. byte < 256) bs → length bs ≡ n → text ≡ spaced bs → ⊥
 
 -- A text that begins with no byte is not that of one or more.
 pub stuck : (n : ℕ) {text : List ℕ} → NoByte text → NoBytes (suc n) text
@@ -64,7 +64,7 @@ byte_once b c p q h l =
     omega (arith, high, low)
 
 -- A text is that of one list of bytes only.
-pub spaced_once : (bs cs : List ℕ) → All (λ byte. byte < 256) bs → All (λ byte. byte < 256) cs → spaced bs ≡ spaced cs → bs ≡ cs
+pub spaced_once : (bs cs : List ℕ) → AllByRecursion (λ byte. byte < 256) bs → AllByRecursion (λ byte. byte < 256) cs → spaced bs ≡ spaced cs → bs ≡ cs
 spaced_once [] [] p q e = refl
 spaced_once [] (c ∷ cs) p q e = let z : ◌≡◌ {A = ℕ} 0 1 = cc in absurd (omega arith)
 spaced_once (b ∷ bs) [] p q e = let z : ◌≡◌ {A = ℕ} 0 1 = cc in absurd (omega arith)

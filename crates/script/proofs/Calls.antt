@@ -1,6 +1,6 @@
 -- The call that a letter and the bytes behind it name.
 use Rattle.std.proofs.Common.{◌≡◌, ℕ, ◌≤◌, cond, eqb, List, [], ◌∷◌, length, get_or, drop, Some, None, Option, sym, refl, ap, ◌∙◌, ap₂, arith}
-use Rattle.hex.specs.Text.{spaced}
+use Rattle.hex_text.specs.Text.{spaced}
 use Rattle.script.specs.declared.call.Call.{Call}
 use Rattle.script.specs.declared.call.Call.TheVariants.{Byte, Gap, Second, Press, Collect}
 use Rattle.script.specs.Lines.{letter_of, bytes_of, Says, Read}

@@ -1,6 +1,6 @@
 -- How long the text of bytes is.
 use Rattle.std.proofs.Common.{◌≡◌, ℕ, ◌*◌, ◌≤◌, List, [], ◌∷◌, length, refl, arith}
-use Rattle.hex.specs.Text.{spaced, text_of}
+use Rattle.hex_text.specs.Text.{spaced, text_of}
 
 length_spaced : (bs : List ℕ) → length (spaced bs) ≡ 3 * length bs
 length_spaced [] = refl

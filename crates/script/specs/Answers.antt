@@ -1,6 +1,6 @@
 -- The lines that answer.
 use Rattle.std.specs.Prelude.{ℕ, ◌+◌, ◌/◌, ◌%◌, ◌≤◌, true, false, cond, List, [], ◌∷◌, ◌++◌, length, codes, nat_lt}
-use Rattle.hex.specs.Text.{text_of}
+use Rattle.hex_text.specs.Text.{text_of}
 use Rattle.script.specs.declared.answer.Answer.{Answer}
 use Rattle.script.specs.declared.answer.Answer.TheVariants.{Done, Refused, Pressed, Wire, Bad}
 

@@ -1,6 +1,6 @@
 -- Worked examples of lines and answers.
 use Rattle.std.specs.Prelude.{◌≡◌, true, false, [], ◌∷◌, codes}
-use Rattle.hex.specs.Text.{text_of}
+use Rattle.hex_text.specs.Text.{text_of}
 use Rattle.script.specs.declared.answer.Answer.TheVariants.{Done, Refused, Pressed, Bad}
 use Rattle.script.specs.declared.call.Call.TheVariants.{Byte, Gap, Second, Press, Collect}
 use Rattle.script.specs.Answers.{answer_of, decimal}

@@ -1,7 +1,7 @@
 -- The lines of a script, each of which names a call.
 use Rattle.std.specs.Prelude.{◌≡◌, ℕ, ◌<◌, List, [], ◌∷◌, Some, None, Option}
-use Rattle.std.specs.List.{AllByRecursion as All}
-use Rattle.hex.specs.Text.{spaced}
+use Rattle.std.specs.List.{AllByRecursion}
+use Rattle.hex_text.specs.Text.{spaced}
 use Rattle.script.specs.declared.call.Call.{Call}
 use Rattle.script.specs.declared.call.Call.TheVariants.{Byte, Gap, Second, Press, Collect}
 
@@ -27,7 +27,7 @@ line_of call = letter_of call ∷ spaced (bytes_of call)
 
 -- The line is that of this call, and each number in the call fits a byte.
 pub record Says (line : List ℕ) (call : Call) : Type 0 where
-  pub narrow : All (λ byte. byte < 256) (bytes_of call)
+  pub narrow : AllByRecursion (λ byte. byte < 256) (bytes_of call)
   pub written : line ≡ line_of call
 
 -- A line that is read says the call that was read. One that is not read says no call.

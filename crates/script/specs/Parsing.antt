@@ -1,6 +1,6 @@
 -- How a line is taken apart, from its front.
 use Rattle.std.specs.Prelude.{◌≡◌, ℕ, ◌<◌, List, [], ◌∷◌, ◌++◌, Some, None, Option}
-use Rattle.hex.specs.Digits.{two_digits}
+use Rattle.hex_text.specs.Digits.{two_digits}
 use Rattle.script.specs.declared.call.Call.{Call}
 
 -- The text begins with a space and the two digits of this byte, and this rest stands behind them.

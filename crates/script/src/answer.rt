@@ -1,10 +1,10 @@
 //! What comes of a line of a script.
 ghost use Rattle.std.specs.Prelude.{◌≡◌, ◌++◌, take, codes};
-ghost use Rattle.hex.specs.Short.{held};
+ghost use Rattle.hex_text.specs.Short.{held};
 ghost use Rattle.script.specs.Answers.{answer_of, ShortWire, decimal};
 
 use crate::typing::typed;
-use hex::{ShortBytes, write};
+use hex_text::{ShortBytes, write};
 
 /// What a recorder answers to a call, or that the line names none.
 #[derive(Clone, Copy)]

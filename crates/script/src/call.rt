@@ -1,12 +1,12 @@
 //! What a line of a script names.
 ghost use Rattle.std.specs.Prelude.{◌≡◌, Some};
-ghost use Rattle.hex.specs.Short.{held};
+ghost use Rattle.hex_text.specs.Short.{held};
 ghost use Rattle.script.specs.declared.call.Call.{Call};
 ghost use Rattle.script.specs.Lines.{line_of, Says, Read};
 
 use crate::parsing::lettered;
 use crate::typing::{push_byte, typed};
-use hex::ShortBytes;
+use hex_text::ShortBytes;
 
 /// A call on a recorder.
 #[derive(Clone, Copy, PartialEq, Eq, Debug)]

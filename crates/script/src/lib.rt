@@ -1,4 +1,6 @@
 //! The text of a bench script: each line names a call on a recorder, and each answer is a line.
+#![tactic(auto)]
+
 mod answer;
 mod call;
 mod figures;

@@ -4,7 +4,7 @@ ghost use Rattle.script.specs.Lines.{Read};
 ghost use Rattle.script.specs.Parsing.{Begins, NoByte, ended};
 
 use crate::call::Call;
-use hex::byte;
+use hex_text::byte;
 
 /// The byte at the front of a text, after a space, and what stands behind it.
 fn next(text: &[u8]) -> Option<(u8, &[u8])>

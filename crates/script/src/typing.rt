@@ -1,9 +1,9 @@
 //! Text that is put together.
 ghost use Rattle.std.specs.Prelude.{◌≡◌, ◌∷◌, ◌++◌, take};
-ghost use Rattle.hex.specs.Digits.{two_digits};
-ghost use Rattle.hex.specs.Short.{held};
+ghost use Rattle.hex_text.specs.Digits.{two_digits};
+ghost use Rattle.hex_text.specs.Short.{held};
 
-use hex::{ShortBytes, digits};
+use hex_text::{ShortBytes, digits};
 
 /// The text of these characters, as many as are held.
 pub(crate) fn typed(characters: &[u8]) -> ShortBytes

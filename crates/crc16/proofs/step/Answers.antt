@@ -1,4 +1,4 @@
-use Rattle.std.proofs.Common.{◌≡◌, ℕ, ◌/◌, ap, ◌∙◌, rules}
+use Rattle.std.proofs.Common.{◌/◌, ap, ◌∙◌, rules}
 use lib.Bits.{bit_xor, and_mask}
 use Rattle.crc16.specs.Division.{remainder_of}
 use Rattle.crc16.proofs.Linear.{by_byte}

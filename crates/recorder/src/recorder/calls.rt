@@ -32,7 +32,7 @@ impl<L: Line> Recorder<L> {
         mut line: L,
         serial: [u8; 8],
     ) -> Result<Recorder<L>, NotMade<L>>
-        ensures { MatchResult result (λ k. ((length log.old == 2048 && length journal.old == 16) ≡ true) × (seen meaning k log.new journal.new ≡ made_state serial)) (λ n. ((length log.old == 2048 && length journal.old == 16) ≡ false) × (n.refusal ≡ Refusal.MemoryLength) × (n.line ≡ line) × (log.new ≡ log.old) × (journal.new ≡ journal.old)) }
+        ensures { MatchResult result (λ k. ((length log.old == 2048 && length journal.old == 16) ≡ true) × (seen L.meaning k log.new journal.new ≡ made_state serial)) (λ n. ((length log.old == 2048 && length journal.old == 16) ≡ false) × (n.refusal ≡ Refusal.MemoryLength) × (n.line ≡ line) × (log.new ≡ log.old) × (journal.new ≡ journal.old)) }
     {
         if !can_serve(log, journal) {
             let refusal = Refusal::MemoryLength;
@@ -52,8 +52,8 @@ impl<L: Line> Recorder<L> {
         journal: &mut [JournalEntry],
         byte: u8,
     ) -> Result<(), Refusal>
-        ensures answer { result ≡ byte_answer (seen meaning self.old log.old journal.old) byte }
-        ensures after { seen meaning self.new log.new journal.new ≡ byte_after (seen meaning self.old log.old journal.old) byte }
+        ensures answer { result ≡ byte_answer (seen L.meaning self.old log.old journal.old) byte }
+        ensures after { seen L.meaning self.new log.new journal.new ≡ byte_after (seen L.meaning self.old log.old journal.old) byte }
         ensures kept { (length log.old == 2048 && length journal.old == 16) ≡ false → (self.new ≡ self.old) × (log.new ≡ log.old) × (journal.new ≡ journal.old) }
     {
         if !can_serve(log, journal) {
@@ -67,7 +67,7 @@ impl<L: Line> Recorder<L> {
 
     /// A gap on the cable drops a half-received command.
     pub fn gap(&mut self)
-        ensures { (log : List ℕ) (journal : List JournalEntry) → seen meaning self.new log journal ≡ gap_after (seen meaning self.old log journal) }
+        ensures { (log : List ℕ) (journal : List JournalEntry) → seen L.meaning self.new log journal ≡ gap_after (seen L.meaning self.old log journal) }
     {
         self.chip.control.received.forget();
     }
@@ -79,8 +79,8 @@ impl<L: Line> Recorder<L> {
         journal: &mut [JournalEntry],
         codes: Codes,
     ) -> Result<(), Refusal>
-        ensures answer { result ≡ second_answer (seen meaning self.old log.old journal.old) codes }
-        ensures after { seen meaning self.new log.new journal.new ≡ second_after (seen meaning self.old log.old journal.old) codes }
+        ensures answer { result ≡ second_answer (seen L.meaning self.old log.old journal.old) codes }
+        ensures after { seen L.meaning self.new log.new journal.new ≡ second_after (seen L.meaning self.old log.old journal.old) codes }
         ensures kept { (length log.old == 2048 && length journal.old == 16) ≡ false → (self.new ≡ self.old) × (log.new ≡ log.old) × (journal.new ≡ journal.old) }
     {
         if !can_serve(log, journal) {
@@ -96,8 +96,8 @@ impl<L: Line> Recorder<L> {
 
     /// The button is pressed: whether that started a mission.
     pub fn press(&mut self, log: &mut [u8], journal: &mut [JournalEntry]) -> Result<bool, Refusal>
-        ensures answer { result ≡ press_answer (seen meaning self.old log.old journal.old) }
-        ensures after { seen meaning self.new log.new journal.new ≡ press_after (seen meaning self.old log.old journal.old) }
+        ensures answer { result ≡ press_answer (seen L.meaning self.old log.old journal.old) }
+        ensures after { seen L.meaning self.new log.new journal.new ≡ press_after (seen L.meaning self.old log.old journal.old) }
         ensures kept { (length log.old == 2048 && length journal.old == 16) ≡ false → (self.new ≡ self.old) × (log.new ≡ log.old) × (journal.new ≡ journal.old) }
     {
         if !can_serve(log, journal) {
@@ -108,9 +108,9 @@ impl<L: Line> Recorder<L> {
 
     /// Collects the reply that waits: writes its wire bytes to the buffer's front, and answers how many there are.
     pub fn collect(&mut self, buffer: &mut [u8]) -> Result<usize, Refusal>
-        ensures answer { result ≡ collect_answer (wire (meaning self.old.line).bytes) (meaning self.old.line) (length buffer.old) }
-        ensures buffer { buffer.new ≡ (if is_ok result then over (wire (meaning self.old.line).bytes) buffer.old else buffer.old) }
-        ensures after { (log : List ℕ) (journal : List JournalEntry) → seen meaning self.new log journal ≡ state (seen meaning self.old log journal).contents (if is_ok result then emptied else meaning self.old.line) }
+        ensures answer { result ≡ collect_answer (L.wire (L.meaning self.old.line).bytes) (L.meaning self.old.line) (length buffer.old) }
+        ensures buffer { buffer.new ≡ (if is_ok result then over (L.wire (L.meaning self.old.line).bytes) buffer.old else buffer.old) }
+        ensures after { (log : List ℕ) (journal : List JournalEntry) → seen L.meaning self.new log journal ≡ state (seen L.meaning self.old log journal).contents (if is_ok result then emptied else L.meaning self.old.line) }
     {
         self.line.collect(buffer)
     }
@@ -136,8 +136,8 @@ impl<L: Line> Recorder<L> {
         journal: &mut [JournalEntry],
         byte: u8,
     ) -> Result<(), Refusal>
-        ensures answer { result ≡ heard_answer (seen meaning self.old log.old journal.old) byte (heard_by (seen meaning self.old log.old journal.old) byte) }
-        ensures after { seen meaning self.new log.new journal.new ≡ heard_after (seen meaning self.old log.old journal.old) byte (heard_by (seen meaning self.old log.old journal.old) byte) }
+        ensures answer { result ≡ heard_answer (seen L.meaning self.old log.old journal.old) byte (heard_by (seen L.meaning self.old log.old journal.old) byte) }
+        ensures after { seen L.meaning self.new log.new journal.new ≡ heard_after (seen L.meaning self.old log.old journal.old) byte (heard_by (seen L.meaning self.old log.old journal.old) byte) }
     {
         match self.chip.control.received.hear(byte) {
             Heard::Part => Ok(()),

@@ -25,8 +25,8 @@ impl<L: Line> Recorder<L> {
         journal: &mut [JournalEntry],
         command: Command,
     ) -> Result<(), Refusal>
-        ensures answer { result ≡ obey_answer (seen meaning self.old log.old journal.old) command }
-        ensures after { seen meaning self.new log.new journal.new ≡ obeyed (seen meaning self.old log.old journal.old) command }
+        ensures answer { result ≡ obey_answer (seen L.meaning self.old log.old journal.old) command }
+        ensures after { seen L.meaning self.new log.new journal.new ≡ obeyed (seen L.meaning self.old log.old journal.old) command }
     {
         let enabled = self.chip.control.registers.take_clear_enable();
         match command {
@@ -41,7 +41,7 @@ impl<L: Line> Recorder<L> {
 /// Makes the bytes from the address to the end of its page wait on the line.
 fn reply<L: Line>(line: &mut L, chip: &Chip, log: &[u8], address: u16) -> Result<(), Refusal>
     ensures answer { result ≡ (if nat_lt address 0x1800 then Ok tt else Err (Refusal.OutsideMap address)) }
-    ensures line { meaning line.new ≡ (if nat_lt address 0x1800 then send_after (page_from (contents chip.now log.now []) address) else meaning line.old) }
+    ensures line { L.meaning line.new ≡ (if nat_lt address 0x1800 then send_after (page_from (contents chip.now log.now []) address) else L.meaning line.old) }
 {
     if address >= MAP_END {
         return Err(Refusal::OutsideMap { address });

@@ -1,4 +1,4 @@
-use Rattle.std.proofs.Common.{◌≡◌, ℕ, ◌+◌, ◌-◌, ◌%◌, refl, mod-eq_of_lt, arith}
+use Rattle.std.proofs.Common.{◌+◌, ◌-◌, ◌%◌, refl, arith}
 use Rattle.std.proofs.lemmas.Bool.{lt-ltb, le-ltb, eq-eqb, ne_eqb}
 use Rattle.mission.proofs.figures.figures_stand.Goals as goal
 

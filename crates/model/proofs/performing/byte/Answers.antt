@@ -7,7 +7,7 @@ use Rattle.model.proofs.performing.byte.Goals as goal
 
 pub returns : goal.returns
 returns g c =
-    let other = sym c.can-serve.ensures ∙ c.if-can-serve.false in
+    let other = sym c.can_serve.ensures ∙ c.if-can_serve.false in
     let short = cannot_serve c.args.spare_log.now c.args.spare_journal.now c.args.n c.args.k c.requires other in
     let kept = c.byte-2.ensures.kept short in
     record {

@@ -7,8 +7,8 @@ returns-in-Ok g c = record {
   ran = (
     search rules,
     ran g.L.Line.meaning g.L.Line.wire g.L.Line.accepted g.met.L.Line.carried c.args.serial c.args.calls.now _ c.in-Ok.ensures.1
-        _ _ _ _ c.perform-all.ensures.notes c.perform-all.ensures.after c.perform-all.ensures.bytes,
+        _ _ _ _ c.perform_all.ensures.notes c.perform_all.ensures.after c.perform_all.ensures.bytes,
   );
-  spare_log = c.perform-all.ensures.spare_log;
-  spare_journal = c.perform-all.ensures.spare_journal;
+  spare_log = c.perform_all.ensures.spare_log;
+  spare_journal = c.perform_all.ensures.spare_journal;
 }

@@ -1,5 +1,5 @@
 use Rattle.std.proofs.Common.{ℕ, List, [], ◌∷◌, ◌++◌, get_or, take, ap, ◌∙◌, ap₂}
-use Rattle.hex.specs.Short.{held}
+use Rattle.hex_text.specs.Short.{held}
 use Rattle.script.proofs.Fronts.{three_more}
 use Rattle.script.proofs.typing.push_byte.Goals as goal
 

@@ -1,6 +1,6 @@
-use Rattle.std.proofs.Common.{ℕ, List, [], ◌∷◌, get_or, take, sym, ap, ◌∙◌}
+use Rattle.std.proofs.Common.{[], ◌∷◌, get_or, take, sym, ap, ◌∙◌}
 use Rattle.std.proofs.lemmas.List.{take_more, take_all}
-use Rattle.hex.specs.Short.{held}
+use Rattle.hex_text.specs.Short.{held}
 use Rattle.script.proofs.Fronts.{front_more}
 use Rattle.script.proofs.typing.typed.Goals as goal
 

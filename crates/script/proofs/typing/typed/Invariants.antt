@@ -1,5 +1,5 @@
 use Rattle.std.proofs.Common.{◌≡◌, take}
-use Rattle.hex.specs.Short.{held}
+use Rattle.hex_text.specs.Short.{held}
 use Rattle.script.proofs.typing.typed.Given as goal
 
 abbrev pub invariant-loop-character : goal.invariant-loop-character

@@ -14,9 +14,14 @@ begun_short rs at used r e h short =
     = ap (λ (i : ℕ). (get_or (set rs at r) i blank).length) place ∙ ap (λ (q : AlarmRecord). q.length) (get_or-set_same rs at r blank (omega arith)) in
     omega arith
 
-pub invariant-of-self-then-used-lt-ALARM-RECORDS : goal.invariant-of-self-then-used-lt-ALARM-RECORDS
-invariant-of-self-then-used-lt-ALARM-RECORDS c =
-    (search rules, (omega arith, (λ _. omega arith, (λ _. begun_short _ _ _ _ c.used-used.ensures (omega arith) (omega arith), tt))))
+pub invariant_of-self-then-used-lt-ALARM_RECORDS : goal.invariant_of-self-then-used-lt-ALARM_RECORDS
+invariant_of-self-then-used-lt-ALARM_RECORDS c =
+    record {
+      whole = search rules;
+      within = omega arith;
+      some = λ _. omega arith;
+      shorter = λ _. begun_short _ _ _ _ c.used-used.ensures (omega arith) (omega arith);
+    }
 
 pub returns-then-not-past : goal.returns-then-not-past
 returns-then-not-past c = record { step = search rules; law = λ sets was at. follows 6 sets c.args.past was at (search rules) }
@@ -24,8 +29,8 @@ returns-then-not-past c = record { step = search rules; law = λ sets was at. fo
 pub returns-then-self : goal.returns-then-self
 returns-then-self c = record { step = search rules; law = λ sets was at. follows 6 sets c.args.past was at (search rules) }
 
-pub returns-then-used-lt-ALARM-RECORDS : goal.returns-then-used-lt-ALARM-RECORDS
-returns-then-used-lt-ALARM-RECORDS c = record { step = search rules; law = λ sets was at. follows 6 sets c.args.past was at (search rules) }
+pub returns-then-used-lt-ALARM_RECORDS : goal.returns-then-used-lt-ALARM_RECORDS
+returns-then-used-lt-ALARM_RECORDS c = record { step = search rules; law = λ sets was at. follows 6 sets c.args.past was at (search rules) }
 
-pub returns-else-used-lt-ALARM-RECORDS : goal.returns-else-used-lt-ALARM-RECORDS
-returns-else-used-lt-ALARM-RECORDS c = record { step = search rules; law = λ sets was at. follows 6 sets c.args.past was at (search rules) }
+pub returns-else-used-lt-ALARM_RECORDS : goal.returns-else-used-lt-ALARM_RECORDS
+returns-else-used-lt-ALARM_RECORDS c = record { step = search rules; law = λ sets was at. follows 6 sets c.args.past was at (search rules) }

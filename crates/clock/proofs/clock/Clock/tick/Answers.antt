@@ -7,13 +7,13 @@ use Rattle.clock.proofs.clock.Clock.tick.Goals as goal
 pub returns : goal.returns
 returns c =
     let before = c.args.self.now.moment in
-    let after = c.next-second-self.result in
+    let after = c.next_second-self.result in
     let stood : Exists before = search rules in
-    let stands : Exists after = c.next-second-self.ensures.lawful in
+    let stands : Exists after = c.next_second-self.ensures.lawful in
     record {
       answer = search rules;
-      after = c.next-second-self.ensures.value;
-      counted = tick_counts before after stood stands c.next-second-self.ensures.value;
-      weekday = ap (λ m. m.weekday) c.next-second-self.ensures.value ∙ tick_weekday before stood.0;
+      after = c.next_second-self.ensures.value;
+      counted = tick_counts before after stood stands c.next_second-self.ensures.value;
+      weekday = ap (λ m. m.weekday) c.next_second-self.ensures.value ∙ tick_weekday before stood.0;
       sole = λ other exists count weekday. one_moment other after exists stands count weekday;
     }

@@ -1,11 +1,11 @@
-use Rattle.std.proofs.Common.{◌≡◌, ℕ, ◌+◌, ◌-◌, ◌<◌, Bool, true, false, cond, List, [], ◌∷◌, ◌++◌, length, take, set, sym, refl, ap, ◌∙◌, arith}
+use Rattle.std.proofs.Common.{◌≡◌, ℕ, ◌+◌, ◌-◌, false, [], ◌∷◌, ◌++◌, take, set, sym, refl, ap, ◌∙◌, arith}
 use Rattle.std.proofs.lemmas.List.{take_more_set}
 use Rattle.std.proofs.lemmas.Bool.{cond-true, cond-false}
 use Rattle.command.specs.declared.command.Heard.{Heard}
 use Rattle.command.specs.declared.command.Heard.TheVariants.{Part, Whole, Unknown}
 use Rattle.command.specs.Commands.{heard_of, is_part}
 use Rattle.command.proofs.received.Received.hear.Goals as goal
-use Rattle.command.proofs.received.Received.hear.Goals.{in-Part, in-default}
+use Rattle.command.proofs.received.Received.hear.Goals.{in-Part, in_default}
 
 not_part : (h : Heard) → (h ≡ Part → ⊥) → is_part h ≡ false
 not_part Part e = absurd (e refl)
@@ -22,6 +22,6 @@ returns c =
       answer = c.decode-heard.ensures ∙ ap (λ (n : ℕ). heard_of (take n xs)) whole ∙ ap heard_of more;
       after = elim c.match-heard.branch [
         | in-Part w ↦ ap (λ (n : ℕ). take n xs) w.self-is ∙ more ∙ sym (cond-true (is_part c.decode-heard.result) _ _ (ap is_part w.in-Part.is))
-        | in-default w ↦ ap (λ (n : ℕ). take n xs) w.self-is ∙ sym (cond-false (is_part c.decode-heard.result) _ _ (not_part c.decode-heard.result w.in-default.not-Part))
+        | in_default w ↦ ap (λ (n : ℕ). take n xs) w.self-is ∙ sym (cond-false (is_part c.decode-heard.result) _ _ (not_part c.decode-heard.result w.in_default.not-Part))
       ];
     }

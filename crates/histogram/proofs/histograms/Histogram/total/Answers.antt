@@ -4,8 +4,8 @@ use Rattle.histogram.specs.Bins.{NoneFull}
 use Rattle.histogram.proofs.Counts.{sum_bins}
 use Rattle.histogram.proofs.histograms.Histogram.total.Goals as goal
 
-pub overflow-add-total : goal.overflow-add-total
-overflow-add-total g c = omega (arith, g.met.K.Kind.few, g.met.K.Binned.whole)
+pub overflow_add-total : goal.overflow_add-total
+overflow_add-total g c = omega (arith, g.met.K.Kind.few, g.met.K.Binned.whole)
 
 pub loop-held-preserved : goal.loop-held-preserved
 loop-held-preserved g c =

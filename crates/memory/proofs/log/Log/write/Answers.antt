@@ -13,7 +13,7 @@ returns-after-self c =
       law = λ w rows e s.
           row_after w rows c.args.row memory _ log.next _ log.full _ e c.args.roll_over (search rules) (search rules) (search rules) s;
       reads = λ w rows e s.
-          row_reads w rows c.args.row memory _ log.next c.put-row-self.result log.full c.if-self.self e c.args.roll_over
+          row_reads w rows c.args.row memory _ log.next c.put_row-self.result log.full c.if-self.self e c.args.roll_over
           (search rules) (search rules) (search rules) s;
     }
 

@@ -1,6 +1,6 @@
 use Rattle.std.proofs.Common.{sym, ap, ◌∙◌}
 use Rattle.record.specs.Contents.{seen as record_seen}
-use Rattle.registers.specs.Contents.{Contents as Registers, contents_of}
+use Rattle.registers.specs.Contents.{Contents as Registers}
 use Rattle.registers.specs.Writing.{write_answer}
 use Rattle.recorder.specs.Control.{controls}
 use Rattle.recorder.specs.Seen.{seen}
@@ -15,10 +15,10 @@ returns-in-Write g c =
     let e = sym c.in-Write.is in
     record {
       answer = c.write.ensures.answer
-          ∙ ap (λ (r : Registers). write_answer r c.in-Write.address c.in-Write.value) c.take-clear-enable-enabled.ensures.after
+          ∙ ap (λ (r : Registers). write_answer r c.in-Write.address c.in-Write.value) c.take_clear_enable-enabled.ensures.after
           ∙ ap (obey_answer s) e;
       after = write_obeyed (controls chip.control c.args.journal.now) (record_seen chip.record c.args.log.now) (g.L.Line.meaning c.args.self.now.line) _
-          c.take-clear-enable-enabled.ensures.after _ c.in-Write.address c.in-Write.value c.write.ensures.after
+          c.take_clear_enable-enabled.ensures.after _ c.in-Write.address c.in-Write.value c.write.ensures.after
           ∙ ap (obeyed s) e;
     }
 
@@ -30,6 +30,6 @@ returns-in-Read g c =
     record {
       answer = c.reply.ensures.answer ∙ ap (obey_answer s) e;
       after = read_obeyed (controls chip.control c.args.journal.now) (record_seen chip.record c.args.log.now) (g.L.Line.meaning c.args.self.now.line) _
-          c.take-clear-enable-enabled.ensures.after _ c.in-Read.address c.reply.ensures.line
+          c.take_clear_enable-enabled.ensures.after _ c.in-Read.address c.reply.ensures.line
           ∙ ap (obeyed s) e;
     }

@@ -1,6 +1,6 @@
-use Rattle.std.proofs.Common.{◌≡◌, length, take, sym, ap, ◌∙◌}
+use Rattle.std.proofs.Common.{◌∙◌}
 use Rattle.std.proofs.lemmas.List.{take_all}
-use Rattle.hex.specs.Text.{text_of}
+use Rattle.hex_text.specs.Text.{text_of}
 use Rattle.script.proofs.Lengths.{text_short}
 use Rattle.script.proofs.answer.Answer.text.Goals as goal
 

@@ -1,4 +1,4 @@
-use Rattle.std.proofs.Common.{◌≡◌, ◌≤◌, ◌∷◌, length, rules}
+use Rattle.std.proofs.Common.{◌≤◌, length, rules}
 use Rattle.std.proofs.lemmas.List.{take_rest}
 use Rattle.script.specs.Lines.{Read}
 use Rattle.script.proofs.Calls.{opened, read_once}

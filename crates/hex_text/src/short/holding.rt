@@ -1,6 +1,6 @@
 //! What a short list of bytes does.
 ghost use Rattle.std.specs.Prelude.{◌≡◌, [], ◌∷◌, ◌++◌, take};
-ghost use Rattle.hex.specs.Short.{held};
+ghost use Rattle.hex_text.specs.Short.{held};
 
 use super::{CAPACITY, ShortBytes};
 

@@ -1,6 +1,6 @@
 -- The first n of a list that grows at its end.
 use Rattle.std.proofs.Common.{◌≡◌, ℕ, zero, suc, ◌+◌, ◌<◌, ◌≤◌, List, [], ◌∷◌, ◌++◌, length, take, set, sym, refl, ap, ◌∙◌, arith}
-use Rattle.std.proofs.lemmas.List.{take_more_set, take_all, take_at, length-take-le, length-append, append_assoc}
+use Rattle.std.proofs.lemmas.List.{take_more_set, take_all, take_at, length-take-le, length-append}
 
 -- what is cut off before more is added is cut off after it
 pub take_front : {X : Type 0} (n : ℕ) (xs ys : List X) → take n (take n xs ++ ys) ≡ take n (xs ++ ys)

@@ -1,8 +1,8 @@
 -- How a line is taken apart, one byte after the other.
 use Rattle.std.specs.Prelude.{◌≡◌, ℕ, cond, List, [], ◌∷◌, ◌++◌, take, Some, None, Option, ◌==◌}
-use Rattle.hex.specs.declared.short.ShortBytes.{ShortBytes}
-use Rattle.hex.specs.Digits.{byte_of}
-use Rattle.hex.specs.Short.{held}
+use Rattle.hex_text.specs.declared.short.ShortBytes.{ShortBytes}
+use Rattle.hex_text.specs.Digits.{byte_of}
+use Rattle.hex_text.specs.Short.{held}
 
 -- a byte before others
 abbrev pub before : Option ℕ → Option (List ℕ) → Option (List ℕ)

@@ -1,7 +1,7 @@
 use Rattle.std.proofs.Common.{ℕ, List, [], ◌∷◌, ◌++◌, get_or, take, ap, ◌∙◌, ap₂}
-use Rattle.hex.specs.Short.{held}
-use Rattle.hex.proofs.Texts.{two_more}
-use Rattle.hex.proofs.typing.push_digits.Goals as goal
+use Rattle.hex_text.specs.Short.{held}
+use Rattle.hex_text.proofs.Texts.{two_more}
+use Rattle.hex_text.proofs.typing.push_digits.Goals as goal
 
 pub returns : goal.returns
 returns c =

@@ -1,9 +1,9 @@
 //! Lines of bytes.
 ghost use Rattle.std.specs.Prelude.{◌≡◌, ◌++◌, take};
-ghost use Rattle.hex.specs.Digits.{two_digits};
-ghost use Rattle.hex.specs.Short.{held};
-ghost use Rattle.hex.specs.Parsing.{parsed_rest, HeldAfter};
-ghost use Rattle.hex.specs.Text.{text_of, Read};
+ghost use Rattle.hex_text.specs.Digits.{two_digits};
+ghost use Rattle.hex_text.specs.Short.{held};
+ghost use Rattle.hex_text.specs.Parsing.{parsed_rest, HeldAfter};
+ghost use Rattle.hex_text.specs.Text.{text_of, Read};
 
 use crate::pairs::{byte, digits};
 use crate::short::ShortBytes;

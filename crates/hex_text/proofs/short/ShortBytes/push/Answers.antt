@@ -1,6 +1,6 @@
 use Rattle.std.proofs.Common.{arith}
-use Rattle.hex.proofs.Fronts.{pushed, not_pushed}
-use Rattle.hex.proofs.short.ShortBytes.push.Goals as goal
+use Rattle.hex_text.proofs.Fronts.{pushed, not_pushed}
+use Rattle.hex_text.proofs.short.ShortBytes.push.Goals as goal
 
 pub returns-then-self-lt-CAPACITY : goal.returns-then-self-lt-CAPACITY
 returns-then-self-lt-CAPACITY c =

@@ -1,9 +1,9 @@
 -- The text of bytes: two digits each, with one space between them.
 use Rattle.std.specs.Prelude.{◌≡◌, ℕ, ◌<◌, List, [], ◌∷◌, ◌++◌, take, Some, None, Option}
-use Rattle.std.specs.List.{AllByRecursion as All}
-use Rattle.hex.specs.declared.short.ShortBytes.{ShortBytes}
-use Rattle.hex.specs.Digits.{two_digits}
-use Rattle.hex.specs.Short.{held}
+use Rattle.std.specs.List.{AllByRecursion}
+use Rattle.hex_text.specs.declared.short.ShortBytes.{ShortBytes}
+use Rattle.hex_text.specs.Digits.{two_digits}
+use Rattle.hex_text.specs.Short.{held}
 
 -- each byte after a space
 abbrev pub spaced : List ℕ → List ℕ
@@ -16,7 +16,7 @@ text_of (byte ∷ bytes) = two_digits byte ++ spaced bytes
 
 -- these bytes are what the text says
 pub record Says (text bytes : List ℕ) : Type 0 where
-  pub narrow : All (λ byte. byte < 256) bytes
+  pub narrow : AllByRecursion (λ byte. byte < 256) bytes
   pub written : text ≡ text_of bytes
 
 -- a text that is read says bytes, the first 240 of which are held; one that is not read says none

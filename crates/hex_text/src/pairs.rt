@@ -1,6 +1,6 @@
 //! One byte and its two digits.
 ghost use Rattle.std.specs.Prelude.{◌≡◌, ◌<◌, Some};
-ghost use Rattle.hex.specs.Digits.{digit_of, byte_of, digit_char, high_digit, low_digit, two_digits};
+ghost use Rattle.hex_text.specs.Digits.{digit_of, byte_of, digit_char, high_digit, low_digit, two_digits};
 
 /// The value of an upper-case hexadecimal digit.
 pub fn digit(c: u8) -> Option<u8>

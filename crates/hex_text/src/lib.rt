@@ -1,4 +1,6 @@
 //! Bytes as text: two upper-case hexadecimal digits each, with one space between them.
+#![tactic(auto)]
+
 mod pairs;
 mod short;
 mod typing;

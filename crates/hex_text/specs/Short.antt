@@ -1,6 +1,6 @@
 -- What a short list of bytes holds.
 use Rattle.std.specs.Prelude.{ℕ, List, take}
-use Rattle.hex.specs.declared.short.ShortBytes.{ShortBytes}
+use Rattle.hex_text.specs.declared.short.ShortBytes.{ShortBytes}
 
 abbrev pub held : ShortBytes → List ℕ
 held s = take s.count s.bytes

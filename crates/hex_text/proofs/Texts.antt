@@ -1,9 +1,9 @@
 -- Text that is written byte by byte.
 use Rattle.std.proofs.Common.{◌≡◌, ℕ, ◌+◌, ◌-◌, ◌<◌, ◌≤◌, List, [], ◌∷◌, ◌++◌, length, get_or, take, drop, sym, refl, ap, ◌∙◌, arith}
 use Rattle.std.proofs.lemmas.List.{take_more, take_all, append_assoc}
-use Rattle.hex.specs.Digits.{two_digits}
-use Rattle.hex.specs.Text.{spaced, text_of}
-use Rattle.hex.proofs.Fronts.{front_more}
+use Rattle.hex_text.specs.Digits.{two_digits}
+use Rattle.hex_text.specs.Text.{spaced, text_of}
+use Rattle.hex_text.proofs.Fronts.{front_more}
 
 spaced_push : (xs : List ℕ) (b : ℕ) → spaced (xs ++ b ∷ []) ≡ spaced xs ++ (32 ∷ two_digits b)
 spaced_push [] b = refl

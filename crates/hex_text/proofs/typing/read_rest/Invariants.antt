@@ -1,8 +1,8 @@
 use Rattle.std.proofs.Common.{◌≡◌, ℕ, List, ◌++◌, length, take}
-use Rattle.hex.specs.Parsing.{parsed_rest}
-use Rattle.hex.specs.Short.{held}
-use Rattle.hex.proofs.Parses.{after}
-use Rattle.hex.proofs.typing.read_rest.Given as goal
+use Rattle.hex_text.specs.Parsing.{parsed_rest}
+use Rattle.hex_text.specs.Short.{held}
+use Rattle.hex_text.proofs.Parses.{after}
+use Rattle.hex_text.proofs.typing.read_rest.Given as goal
 
 -- these bytes were read already, and the rest of the line says the others
 abbrev pub invariant-loop-rest : goal.invariant-loop-rest

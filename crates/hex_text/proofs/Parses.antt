@@ -1,14 +1,14 @@
 -- A line that is read byte by byte, and the text of its bytes.
-use Rattle.std.proofs.Common.{◌≡◌, ℕ, ◌+◌, ◌-◌, ◌*◌, ◌/◌, ◌%◌, ◌<◌, ◌≤◌, Bool, true, false, cond, eqb, ltb, List, [], ◌∷◌, ◌++◌, length, get_or, take, drop, Some, None, Option, sym, refl, ap, ◌∙◌, ap₂, append_assoc, append-nil, arith}
+use Rattle.std.proofs.Common.{◌≡◌, ℕ, ◌+◌, ◌*◌, ◌/◌, ◌%◌, ◌<◌, ◌≤◌, Bool, true, false, cond, eqb, List, [], ◌∷◌, ◌++◌, length, get_or, take, drop, Some, None, Option, sym, refl, ap, ◌∙◌, ap₂, append_assoc, append-nil, arith}
 use Rattle.std.proofs.lemmas.List.{take_all, length-take-le}
 use Rattle.std.proofs.lemmas.Bool.{eqb-true}
 use Rattle.std.proofs.lemmas.Bool.Decides.{nat_tests}
-use Rattle.std.specs.List.{AllByRecursion as All}
-use Rattle.hex.specs.declared.short.ShortBytes.{ShortBytes}
-use Rattle.hex.specs.Digits.{digit_of, digit_char, paired, byte_of, high_digit, low_digit}
-use Rattle.hex.specs.Parsing.{before, parsed, parsed_rest, HeldAfter}
-use Rattle.hex.specs.Short.{held}
-use Rattle.hex.specs.Text.{spaced, text_of, Says, Read}
+use Rattle.std.specs.List.{AllByRecursion}
+use Rattle.hex_text.specs.declared.short.ShortBytes.{ShortBytes}
+use Rattle.hex_text.specs.Digits.{digit_of, digit_char, paired, byte_of, high_digit, low_digit}
+use Rattle.hex_text.specs.Parsing.{before, parsed, parsed_rest, HeldAfter}
+use Rattle.hex_text.specs.Short.{held}
+use Rattle.hex_text.specs.Text.{spaced, text_of, Says, Read}
 
 -- bytes that were read already, and then the others
 abbrev pub after : List ℕ → Option (List ℕ) → Option (List ℕ)
@@ -67,11 +67,11 @@ byte_back : (h l b : ℕ) → byte_of h l ≡ Some b → (h ≡ high_digit b) ×
 byte_back h l b e = byte_from h l b (digit_of h) (digit_of l) refl refl e
 
 -- a text of bytes is read as these
-rest_there : (bs : List ℕ) → All (λ byte. byte < 256) bs → parsed_rest (spaced bs) ≡ Some bs
+rest_there : (bs : List ℕ) → AllByRecursion (λ byte. byte < 256) bs → parsed_rest (spaced bs) ≡ Some bs
 rest_there [] a = refl
 rest_there (b ∷ bs) a = ap₂ before (byte_there b a.0) (rest_there bs a.1)
 
-text_there : (bs : List ℕ) → All (λ byte. byte < 256) bs → parsed (text_of bs) ≡ Some bs
+text_there : (bs : List ℕ) → AllByRecursion (λ byte. byte < 256) bs → parsed (text_of bs) ≡ Some bs
 text_there [] a = refl
 text_there (b ∷ bs) a = ap₂ before (byte_there b a.0) (rest_there bs a.1)
 
@@ -89,7 +89,7 @@ after_space true x b e = (refl, e)
 after_space false x b e = let z : ◌≡◌ {A = ℕ} 0 1 = cc in absurd (omega arith)
 
 -- a rest that is read is the text of what was read
-rest_back : (t bs : List ℕ) → parsed_rest t ≡ Some bs → (t ≡ spaced bs) × All (λ byte. byte < 256) bs
+rest_back : (t bs : List ℕ) → parsed_rest t ≡ Some bs → (t ≡ spaced bs) × AllByRecursion (λ byte. byte < 256) bs
 rest_back [] bs e = let n : bs ≡ [] = cc in (ap spaced (sym n), rw n tt)
 rest_back (s ∷ []) bs e = let z : ◌≡◌ {A = ℕ} 0 1 = cc in absurd (omega arith)
 rest_back (s ∷ (h ∷ [])) bs e = let z : ◌≡◌ {A = ℕ} 0 1 = cc in absurd (omega arith)
