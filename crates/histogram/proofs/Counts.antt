@@ -1,6 +1,6 @@
 -- One more reading, and the sum of the bins, for every kind of reading.
 use Rattle.std.proofs.Common.{◌≡◌, ℕ, zero, suc, ◌+◌, ◌<◌, min, cond, eqb, ◌⊎◌, List, [], ◌∷◌, ◌++◌, map, length, get_or, set, replicate, sum, sym, refl, ap, ◌∙◌, inl, inr, add-zero, zero-add, arith, length-set, get_or-set_other, get_or-set_same, ext_get_or}
-use Rattle.std.specs.List.{range_with_len}
+use Rattle.std.specs.List.{range_with_len, AllByRecursion}
 use Rattle.std.proofs.lemmas.List.FromFn.{length-map-range_with_len, get_or-map-range_with_len}
 use Rattle.std.proofs.lemmas.List.Sums.{sum_by_push, sum_by-cons, sum_by-set}
 use Rattle.std.proofs.lemmas.Bool.{cases_eq, eq-eqb, ne_eqb}
@@ -68,7 +68,7 @@ module _ {X : Type 0} (place : X → ℕ) where
       (rw (falling_push readings r (place r), one_here r, at) more))
 
   -- Uncapped, the bins add up to the number of readings.
-  sum_falling : (n : ℕ) (readings : List X) → ((r : X) → place r < n) → sum (map (falling place readings) (range_with_len 0 n)) ≡ length readings
+  sum_falling : (n : ℕ) (readings : List X) → AllByRecursion (λ r. place r < n) readings → sum (map (falling place readings) (range_with_len 0 n)) ≡ length readings
   sum_falling n [] within = none n 0
     where
       none : (k i : ℕ) → sum (map (falling place []) (range_with_len i k)) ≡ 0
@@ -77,19 +77,19 @@ module _ {X : Type 0} (place : X → ℕ) where
   sum_falling n (r ∷ readings) within =
       let q : ℕ = place r in
       let before : List ℕ = map (falling place readings) (range_with_len 0 n) in
-      let l : q < length before = omega (arith, length-map-range_with_len (falling place readings) 0 n, within r) in
+      let l : q < length before = omega (arith, length-map-range_with_len (falling place readings) 0 n, within.0) in
       let at : get_or before q 0 ≡ falling place readings q
-      = get_or-map-range_with_len (falling place readings) 0 n q q 0 (within r) (omega arith) in
+      = get_or-map-range_with_len (falling place readings) 0 n q q 0 within.0 (omega arith) in
       let e : map (falling place (r ∷ readings)) (range_with_len 0 n) ≡ set before q (1 + falling place readings q)
-      = set_value n (falling place readings) (falling place (r ∷ readings)) q (1 + falling place readings q) (within r)
+      = set_value n (falling place readings) (falling place (r ∷ readings)) q (1 + falling place readings q) within.0
       (λ b k. rw (falling_cons readings r b, one_other r b k, zero-add (falling place readings b)))
       (rw (falling_cons readings r q, one_here r)) in
       let s : sum (set before q (1 + falling place readings q)) + get_or before q 0 ≡ sum before + (1 + falling place readings q)
       = sum_by-set (λ x. x) before q (1 + falling place readings q) 0 l in
-      ap sum e ∙ omega (arith, sum_falling n readings within)
+      ap sum e ∙ omega (arith, sum_falling n readings within.1)
 
   -- While no bin is at the top, the bins add up to the number of readings.
-  pub sum_bins : (n : ℕ) (readings : List X) → ((r : X) → place r < n) → NoneFull n (bins_after place n readings) → sum (bins_after place n readings) ≡ length readings
+  pub sum_bins : (n : ℕ) (readings : List X) → AllByRecursion (λ r. place r < n) readings → NoneFull n (bins_after place n readings) → sum (bins_after place n readings) ≡ length readings
   unfolding bins_after
   sum_bins n readings within room =
       ap sum (same_values n (falling place readings) (bin_after place readings) (λ b h.

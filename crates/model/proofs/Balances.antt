@@ -1,5 +1,6 @@
 -- What the two counters tell of the sets: of one call, and of a run.
-use Rattle.std.proofs.Common.{◌≡◌, ℕ, ◌+◌, ◌<◌, ◌≤◌, Bool, true, false, ◌||◌, ltb, List, [], ◌∷◌, length, sym, refl, ap, subst, arith}
+use Rattle.std.proofs.Common.{◌≡◌, ℕ, ◌+◌, ◌<◌, ◌≤◌, Bool, true, false, ◌||◌, ltb, List, [], ◌∷◌, length, sym, refl, ap, ◌∙◌, subst, arith}
+use Rattle.std.proofs.lemmas.List.{length_push}
 use Rattle.std.proofs.lemmas.Bool.{true≢false, false≢true, ltb-true, ltb-false}
 use Rattle.counter.specs.Counting.{counted}
 use Rattle.model.specs.declared.calls.Call.{Call}
@@ -22,7 +23,7 @@ MovedTo m x = Moved (length m.sets) m.made (length x.sets) x.made
 
 did_moved : (m : Model) (c : Call) (x : Model) → Did m c x → MovedTo m x
 did_moved m c x (kept k) = unmoved (ap length k.sets) k.made
-did_moved m c x (took sets made line) = one_taken sets made
+did_moved m c x (took set brought sets made line) = one_taken (ap length sets ∙ length_push m.sets set) made
 did_moved m c x (wiped sets made line) = all_cleared (ap length sets) made
 did_moved m c x (sent sets made s) = unmoved (ap length sets) made
 did_moved m c x (gave sets made line) = unmoved (ap length sets) made

@@ -1,6 +1,5 @@
 -- What a call changes of the sets, of how many were made, and of the line.
-use Rattle.std.proofs.Common.{◌≡◌, ℕ, ◌+◌, ◌<◌, Bool, true, false, cond, ◌&&◌, eqb, ltb, List, [], ◌∷◌, ◌++◌, length, is_ok, refl, ap, ◌∙◌, subst}
-use Rattle.std.proofs.lemmas.List.{length_push}
+use Rattle.std.proofs.Common.{◌≡◌, ℕ, ◌+◌, ◌<◌, Bool, true, false, cond, ◌&&◌, eqb, ltb, List, [], ◌∷◌, ◌++◌, is_ok, refl, ap, subst}
 use Rattle.std.proofs.lemmas.Bool.{and_parts, cond_both, eqb-true, ltb-true}
 use Rattle.clock.specs.Ticking.{rolls_over}
 use Rattle.command.specs.Commands.{heard_of}
@@ -9,8 +8,10 @@ use Rattle.command.specs.declared.command.Command.TheVariants.{Write, Read, Read
 use Rattle.command.specs.declared.command.Heard.{Heard}
 use Rattle.command.specs.declared.command.Heard.TheVariants.{Part, Whole, Unknown}
 use Rattle.line.specs.Reply.{reply, emptied}
+use Rattle.model.specs.Runs.{serve}
 use Rattle.mission.specs.Schedule.{due}
 use Rattle.mission.specs.declared.codes.Codes.{Codes}
+use Rattle.record.specs.Sets.{SampleSet}
 use Rattle.registers.specs.Steps.{tick_after, count_down_after}
 use Rattle.registers.specs.Writing.{write_answer, write_after, stops as stopping}
 use Rattle.recorder.specs.Control.{starts as starting, press_starts}
@@ -21,7 +22,7 @@ use Rattle.model.specs.Model.{Model, with_registers, with_received, with_line, r
 use Rattle.model.specs.Stand.{stand}
 use Rattle.model.specs.Rules.{started, stopped, cleared, accepted, written, replies, commanded, enable_used, heard}
 use Rattle.model.specs.Rules.{served, sampled, rolled, passed, pressed}
-use Rattle.model.specs.Runs.{serve, after, collect_result, heard_by}
+use Rattle.model.specs.Runs.{after, collect_result, heard_by}
 
 -- Sets, their number and the line are as they were.
 pub record Kept (m x : Model) : Type 0 where
@@ -39,10 +40,17 @@ pub record Sent (m : Model) (c : Call) (x : Model) : Type 0 where
   pub inside : address < 0x1800
   pub line : x.line ≡ reply (page_from (stand x).contents address) true
 
+-- A set was brought by this call: a second with its codes, whose temperature code is at most 250.
+pub record Brought (c : Call) (set : SampleSet) : Type 0 where
+  pub log : ℕ
+  pub journal : ℕ
+  pub arrives : c ≡ Second log journal set.codes
+  pub accepted : ltb 250 set.codes.temperature ≡ false
+
 -- What a call did to the model m, which is x after it.
 pub data Did (m : Model) (c : Call) (x : Model) : Type 0 where
   kept : Kept m x → Did m c x
-  took : length x.sets ≡ length m.sets + 1 → x.made ≡ m.made + 1 → x.line ≡ m.line → Did m c x
+  took : (set : SampleSet) → Brought c set → x.sets ≡ m.sets ++ set ∷ [] → x.made ≡ m.made + 1 → x.line ≡ m.line → Did m c x
   wiped : x.sets ≡ [] → x.made ≡ m.made → x.line ≡ m.line → Did m c x
   sent : x.sets ≡ m.sets → x.made ≡ m.made → Sent m c x → Did m c x
   gave : x.sets ≡ m.sets → x.made ≡ m.made → x.line ≡ emptied → Did m c x
@@ -50,7 +58,7 @@ pub data Did (m : Model) (c : Call) (x : Model) : Type 0 where
 all_kept : (m : Model) → Kept m m
 all_kept m = record { sets = refl; made = refl; line = refl }
 
-either : (P : Model → Type 0) (t : Bool) (x y : Model) → P x → P y → P (cond t x y)
+pub either : (P : Model → Type 0) (t : Bool) (x y : Model) → P x → P y → P (cond t x y)
 either P t x y p q = cond_both t x y P (λ _. p) (λ _. q)
 
 -- ---- writes
@@ -122,7 +130,7 @@ module _ (m : Model) (byte : ℕ) where
       (λ _. kept (all_kept m)) (λ free. heard_did (heard_of (m.received ++ byte ∷ [])) free refl)
 
 -- A byte that is lent memories that can serve is lent those of 2,048 bytes and 16 entries.
-own_byte : (log journal byte : ℕ) → serve log journal ≡ true → Byte 2048 16 byte ≡ Byte log journal byte
+pub own_byte : (log journal byte : ℕ) → serve log journal ≡ true → Byte 2048 16 byte ≡ Byte log journal byte
 own_byte log journal byte e =
     let both = and_parts (eqb log 2048) (eqb journal 16) e in
     let l : log ≡ 2048 = eqb-true log 2048 both.0 in
@@ -134,19 +142,25 @@ own_byte log journal byte e =
 served_kept : (m x : Model) (codes : Codes) → Kept m x → Kept m (served x codes)
 served_kept m x codes k = either (Kept m) x.sensing _ _ (record { sets = k.sets; made = k.made; line = k.line }) k
 
-rolled_did : (m x : Model) (c : Call) (codes : Codes) → Kept m x → Did m c (rolled x codes)
-rolled_did m x c codes k =
-    let on = rolls x (count_down_after x.registers) in
-    either (Did m c) (due x.plan.delay x.plan.rate on.k) (sampled on codes) on
-    (took (length_push x.sets _ ∙ ap (λ xs. length xs + 1) k.sets) (ap (λ n. n + 1) k.made) k.line)
-    (kept (record { sets = k.sets; made = k.made; line = k.line }))
+module _ (m : Model) (log journal : ℕ) (codes : Codes) (cool : ltb 250 codes.temperature ≡ false) where
+  abbrev second : Call
+  second = Second log journal codes
 
-passed_did : (m : Model) (c : Call) (codes : Codes) → Did m c (passed m codes)
-passed_did m c codes =
-    let ticked = with_registers m (tick_after m.registers) in
-    let on = served ticked codes in
-    let k : Kept m on = served_kept m ticked codes (record { sets = refl; made = refl; line = refl }) in
-    either (Did m c) (rolls_over m.registers.moment && m.in_mission) (rolled on codes) on (rolled_did m on c codes k) (kept k)
+  rolled_did : (x : Model) → Kept m x → Did m second (rolled x codes)
+  rolled_did x k =
+      let on = rolls x (count_down_after x.registers) in
+      let set : SampleSet = record { codes = codes; moment = x.registers.moment } in
+      either (Did m second) (due x.plan.delay x.plan.rate on.k) (sampled on codes) on
+      (took set (record { log = log; journal = journal; arrives = refl; accepted = cool })
+      (ap (λ sets. sets ++ set ∷ []) k.sets) (ap (λ n. n + 1) k.made) k.line)
+      (kept (record { sets = k.sets; made = k.made; line = k.line }))
+
+  passed_did : Did m second (passed m codes)
+  passed_did =
+      let ticked = with_registers m (tick_after m.registers) in
+      let on = served ticked codes in
+      let k : Kept m on = served_kept m ticked codes (record { sets = refl; made = refl; line = refl }) in
+      either (Did m second) (rolls_over m.registers.moment && m.in_mission) (rolled on codes) on (rolled_did on k) (kept k)
 
 -- ---- every call
 
@@ -158,7 +172,7 @@ did wire m (Byte log journal byte) =
 did wire m Gap = kept (record { sets = refl; made = refl; line = refl })
 did wire m (Second log journal codes) =
     let c = Second log journal codes in
-    let heeded = either (Did m c) (ltb 250 codes.temperature) m (passed m codes) (kept (all_kept m)) (passed_did m c codes) in
+    let heeded = cond_both (ltb 250 codes.temperature) m (passed m codes) (Did m c) (λ _. kept (all_kept m)) (λ cool. passed_did m log journal codes cool) in
     either (Did m c) (serve log journal) (cond (ltb 250 codes.temperature) m (passed m codes)) m heeded (kept (all_kept m))
 did wire m (Press log journal) =
     let c = Press log journal in

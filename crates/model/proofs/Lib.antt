@@ -17,4 +17,8 @@ pub mod Balances
 pub mod Counting
 pub mod Reading
 pub mod Prefixes
+pub mod Flags
+pub mod Flagged
+pub mod Flagging
+pub mod Adding
 pub mod Truths

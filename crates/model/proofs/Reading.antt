@@ -145,7 +145,7 @@ module _ (wire : List ℕ → List ℕ) (accepted : List ℕ → Option (List �
   waiting_after : (i : ℕ) → i < length cs → Did (at i) (get_or cs i Gap) (at (i + 1)) → ((at i).line.waits ≡ true → Waiting i)
       → (at (i + 1)).line.waits ≡ true → Waiting (i + 1)
   waiting_after i lt (kept k) before e = still_waiting i k.line before e
-  waiting_after i lt (took sets made line) before e = still_waiting i line before e
+  waiting_after i lt (took set brought sets made line) before e = still_waiting i line before e
   waiting_after i lt (wiped sets made line) before e = still_waiting i line before e
   waiting_after i lt (sent sets made s) before e = record {
     j = i;

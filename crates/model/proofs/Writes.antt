@@ -1,8 +1,10 @@
 -- Writes of registers, which may stop a mission and start one.
-use Rattle.std.proofs.Common.{◌≡◌, ℕ, ◌-◌, ◌<◌, Bool, true, false, cond, not, ◌&&◌, eqb, ltb, [], set, is_ok, Err, sym, refl, ap, ◌∙◌, subst}
+use Rattle.std.proofs.Common.{◌≡◌, ℕ, ◌-◌, ◌<◌, Bool, true, false, cond, not, ◌&&◌, eqb, ltb, List, [], set, is_ok, Err, sym, refl, ap, ◌∙◌, subst}
 use Rattle.std.proofs.lemmas.Bool.{false≢true, and_from, and_parts, eqb-true, ltb-true, lt-ltb, cond-true, cond_both}
+use Rattle.clock.specs.declared.calendar.Moment.{Moment}
 use Rattle.mission.specs.Channels.{any_on, bit}
 use Rattle.mission.specs.Setting.{can_run}
+use Rattle.mission.specs.declared.limits.Limits.{Limits}
 use Rattle.refusal.specs.declared.refusal.Refusal.TheVariants.{NoChannel, NotCleared}
 use Rattle.registers.specs.Bytes.{delay_high, delay_low, switches_byte, without_clear}
 use Rattle.registers.specs.Clocking.{clock_with}
@@ -28,28 +30,45 @@ use Rattle.model.proofs.Ways.{controls_chosen, same_chosen}
 
 -- ---- the registers
 
+-- What holds of the registers, and of each change of one of them, holds of them after a write.
+module _ (r : Registers) (address value : ℕ) (P : Registers → Type 0) (none : P r)
+    (moment : (x : Moment) → P (with_moment r x)) (limits : (x : Limits) → P (with_limits r x)) (rate : (x : ℕ) → P (with_rate r x))
+    (control : (x : ℕ) (enabled : Bool) → P (with_control r x enabled)) (delay : (x : ℕ) → P (with_delay r x))
+    (switches : (x : ℕ) → P (with_switches r x)) (user : (x : List ℕ) → P (with_user r x))
+    (status_1 : address ≡ 0x14 → P (with_flags r (status_1_kept r.flags value)))
+    (status_2 : address ≡ 0x2A → P (with_flags r (status_2_kept r.flags value))) where
+  either : (t : Bool) (x y : Registers) → P x → P y → P (cond t x y)
+  either t x y p q = cond_both t x y P (λ _. p) (λ _. q)
+
+  stored_holds : P (stored r address value)
+  stored_holds =
+      either (within 0x00 0x06 address) _ _ (moment (clock_with r.moment address value))
+      (either (within 0x0B 0x0C address) _ _ (limits (limits_with r.limits address value))
+      (either (eqb address 0x0D) _ _ (rate value)
+      (either (eqb address 0x0E) _ _ (control (without_clear value) (bit 6 value))
+      (either (eqb address 0x12) _ _ (delay (delay_low r.delay value))
+      (either (eqb address 0x13) _ _ (delay (delay_high r.delay value))
+      (cond_both (eqb address 0x14) _ _ P (λ e. status_1 (eqb-true address 0x14 e)) (λ _.
+      either (within 0x23 0x28 address) _ _ (limits (limits_with r.limits address value))
+      (either (eqb address 0x29) _ _ (switches (switches_byte value))
+      (cond_both (eqb address 0x2A) _ _ P (λ e. status_2 (eqb-true address 0x2A e)) (λ _.
+      either (within 0x40 0x5F address) _ _ (user (set r.user (address - 0x40) value)) none))))))))))
+
+  write_holds : P (write_after r address value)
+  write_holds = either (is_ok (write_answer r address value)) (stored r address value) r stored_holds none
+
 -- A write changes nothing of whether the record reads as cleared.
-module _ (r : Registers) (address value : ℕ) where
-  either : (t : Bool) (x y : Registers) → x.cleared ≡ r.cleared → y.cleared ≡ r.cleared → (cond t x y).cleared ≡ r.cleared
-  either true x y p q = p
-  either false x y p q = q
+pub write_keeps : (r : Registers) (address value : ℕ) → (write_after r address value).cleared ≡ r.cleared
+write_keeps r address value =
+    write_holds r address value (λ x. x.cleared ≡ r.cleared) refl
+    (λ _. refl) (λ _. refl) (λ _. refl) (λ _ _. refl) (λ _. refl) (λ _. refl) (λ _. refl) (λ _. refl) (λ _. refl)
 
-  stored_keeps : (stored r address value).cleared ≡ r.cleared
-  stored_keeps =
-      either (within 0x00 0x06 address) (with_moment r (clock_with r.moment address value)) _ refl
-      (either (within 0x0B 0x0C address) (with_limits r (limits_with r.limits address value)) _ refl
-      (either (eqb address 0x0D) (with_rate r value) _ refl
-      (either (eqb address 0x0E) (with_control r (without_clear value) (bit 6 value)) _ refl
-      (either (eqb address 0x12) (with_delay r (delay_low r.delay value)) _ refl
-      (either (eqb address 0x13) (with_delay r (delay_high r.delay value)) _ refl
-      (either (eqb address 0x14) (with_flags r (status_1_kept r.flags value)) _ refl
-      (either (within 0x23 0x28 address) (with_limits r (limits_with r.limits address value)) _ refl
-      (either (eqb address 0x29) (with_switches r (switches_byte value)) _ refl
-      (either (eqb address 0x2A) (with_flags r (status_2_kept r.flags value)) _ refl
-      (either (within 0x40 0x5F address) (with_user r (set r.user (address - 0x40) value)) r refl refl))))))))))
-
-  pub write_keeps : (write_after r address value).cleared ≡ r.cleared
-  write_keeps = either (is_ok (write_answer r address value)) (stored r address value) r stored_keeps refl
+-- A write elsewhere than to the status registers changes no flag.
+pub write_keeps_flags : (r : Registers) (address value : ℕ) → (address ≡ 0x14 → ⊥) → (address ≡ 0x2A → ⊥)
+    → (write_after r address value).flags ≡ r.flags
+write_keeps_flags r address value not_1 not_2 =
+    write_holds r address value (λ x. x.flags ≡ r.flags) refl
+    (λ _. refl) (λ _. refl) (λ _. refl) (λ _ _. refl) (λ _. refl) (λ _. refl) (λ _. refl) (λ e. absurd (not_1 e)) (λ e. absurd (not_2 e))
 
 -- What a write that starts a mission is bound to: the record read as cleared, and the registers then hold a rate and a channel.
 pub record Starts (before after : Registers) : Type 0 where

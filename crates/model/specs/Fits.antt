@@ -1,5 +1,5 @@
 -- Which calls can be performed: those whose memories can be lent.
-use Rattle.std.specs.Prelude.{ℕ, Bool, true, ◌&&◌, ◌||◌, List, [], ◌∷◌, length, ◌==◌, nat_le}
+use Rattle.std.specs.Prelude.{ℕ, ◌<◌, Bool, true, ◌&&◌, ◌||◌, List, [], ◌∷◌, length, ◌==◌, nat_le}
 use Rattle.model.specs.declared.calls.Call.{Call}
 use Rattle.model.specs.declared.calls.Call.TheVariants.{Byte, Gap, Second, Press, Collect}
 use Rattle.model.specs.Runs.{serve}
@@ -19,6 +19,14 @@ fits spare_log spare_journal (Collect room) = nat_le room 80
 abbrev pub all_fit : ℕ → ℕ → List Call → Bool
 all_fit spare_log spare_journal [] = true
 all_fit spare_log spare_journal (c ∷ cs) = fits spare_log spare_journal c && all_fit spare_log spare_journal cs
+
+-- The voltage code of channel 1 that a call brings is a byte.
+abbrev pub Narrow : Call → Type 0
+Narrow (Byte log journal byte) = Unit {0}
+Narrow Gap = Unit {0}
+Narrow (Second log journal codes) = codes.one < 256
+Narrow (Press log journal) = Unit {0}
+Narrow (Collect room) = Unit {0}
 
 -- A run can be performed: there is a place for each outcome, each call can be performed, and the recorder's own memories can serve.
 abbrev pub runnable : List Call → ℕ → ℕ → ℕ → ℕ → ℕ → Bool

@@ -1,8 +1,9 @@
 -- Laws over whole runs.
-use Rattle.std.specs.Prelude.{◌≡◌, ℕ, ◌+◌, ◌-◌, ◌<◌, ◌≤◌, Bool, true, false, ◌&&◌, ◌||◌, ◌↔◌, List, [], ◌∷◌, ◌++◌, length, get_or, take, replicate, Some, Option, nat_lt, slice_index_or, slice_range}
+use Rattle.std.specs.Prelude.{◌≡◌, ℕ, ◌+◌, ◌-◌, ◌<◌, ◌≤◌, Bool, true, false, ◌&&◌, ◌||◌, ◌↔◌, List, [], ◌∷◌, ◌++◌, length, get_or, take, replicate, Some, sum, Option, nat_lt, slice_index_or, slice_range}
 use Rattle.command.specs.Commands.{heard_of}
 use Rattle.command.specs.declared.command.Command.TheVariants.{Read}
 use Rattle.command.specs.declared.command.Heard.TheVariants.{Whole}
+use Rattle.histogram.specs.Bins.{NoneFull}
 use Rattle.line.specs.Reply.{reply}
 use Rattle.recorder.specs.Map.{page_from}
 use Rattle.model.specs.declared.calls.Answer.TheVariants.{Done, Collected}
@@ -57,6 +58,17 @@ abbrev pub Counts : List Outcome → Type 0
 Counts os =
     (i j : ℕ) → i ≤ j → j ≤ length os → current_at os i ≡ 0 → total_at os j < 0xFFFFFF
     → (current_at os j ≡ total_at os j - total_at os i) ↔ (some_lost (slice_index_or (moments os) i making) (following i j os) ≡ false)
+
+-- ---- bins
+
+-- While none of the bins of a channel that is on is at its top, they add up to n.
+abbrev pub AddUp : Bool → ℕ → List ℕ → ℕ → Type 0
+AddUp on count bins n = on ≡ true → NoneFull count bins → sum bins ≡ n
+
+-- The bins of temperature and of channel 1 add up to the number of sets since the last clear.
+pub record BinsAddUp (m : Model) : Type 0 where
+  pub temperature : AddUp m.plan.rules.channels.temperature 63 (stand m).contents.recorded.temperatures (length m.sets)
+  pub one : AddUp m.plan.rules.channels.one 64 (stand m).contents.recorded.voltages (length m.sets)
 
 -- ---- replies
 

@@ -4,5 +4,6 @@ pub mod Rules
 pub mod Runs
 pub mod Steps
 pub mod Laws
+pub mod Flagging
 pub mod Fits
 pub mod Theorem

@@ -1,9 +1,13 @@
 //! Whole runs: a recorder is made, and each call of a list is performed on it.
-ghost use Rattle.std.specs.Prelude.{◌≡◌, ℕ, ◌<◌, Bool, true, false, ◌&&◌, List, length, take, MatchResult};
+ghost use Rattle.std.specs.Prelude.{◌≡◌, ℕ, ◌<◌, Bool, true, false, ◌&&◌, List, length, take, MatchResult, IfOk};
+ghost use Rattle.std.specs.List.{AllByRecursion};
 ghost use Rattle.line.specs.Reply.{Bytes};
 ghost use Rattle.recorder.specs.Seen.{seen};
-ghost use Rattle.model.specs.Fits.{all_fit, fits, lendable, runnable};
-ghost use Rattle.model.specs.Runs.{serve};
+ghost use Rattle.model.specs.Fits.{Narrow, all_fit, fits, lendable, runnable};
+ghost use Rattle.model.specs.Flagging.{Flags};
+ghost use Rattle.model.specs.Laws.{BinsAddUp};
+ghost use Rattle.model.specs.Model.{fresh};
+ghost use Rattle.model.specs.Runs.{ends, serve};
 ghost use Rattle.model.specs.Steps.{outcomes, run_after};
 ghost use Rattle.model.specs.Theorem.{Ran};
 
@@ -22,7 +26,8 @@ fn can_lend(spare_log: usize, spare_journal: usize, log: usize, journal: usize) 
 
 /// Whether a call can be performed with spare memories of these lengths.
 fn can_perform(spare_log: usize, spare_journal: usize, call: Call) -> bool
-    ensures { result ≡ fits spare_log spare_journal call }
+    ensures fits { result ≡ fits spare_log spare_journal call }
+    ensures narrow { Narrow call }
 {
     match call {
         Call::Byte {
@@ -43,7 +48,8 @@ fn can_perform(spare_log: usize, spare_journal: usize, call: Call) -> bool
 
 /// Whether each of the calls can be performed with spare memories of these lengths.
 fn can_perform_all(spare_log: usize, spare_journal: usize, calls: &[Call]) -> bool
-    ensures { result ≡ all_fit spare_log spare_journal calls.now }
+    ensures fit { result ≡ all_fit spare_log spare_journal calls.now }
+    ensures narrow { result ≡ true → AllByRecursion Narrow calls.now }
 {
     for call in calls {
         if !can_perform(spare_log, spare_journal, *call) {
@@ -92,6 +98,8 @@ pub fn run<L: Line>(
     notes: &mut [Outcome],
 ) -> Result<Recorder<L>, L>
     ensures ran { MatchResult result (λ k. (runnable calls.now (length notes.old) (length spare_log.old) (length spare_journal.old) (length log.old) (length journal.old) ≡ true) × Ran L.meaning L.wire L.accepted serial calls.now k log.new journal.new notes.new) (λ l. (runnable calls.now (length notes.old) (length spare_log.old) (length spare_journal.old) (length log.old) (length journal.old) ≡ false) × (l ≡ line) × (log.new ≡ log.old) × (journal.new ≡ journal.old) × (notes.new ≡ notes.old)) }
+    ensures bins { IfOk result (λ _. BinsAddUp (ends L.wire (fresh serial) calls.now)) }
+    ensures flags { IfOk result (λ _. Flags L.wire L.accepted serial calls.now) }
     ensures spare_log { spare_log.new ≡ spare_log.old }
     ensures spare_journal { spare_journal.new ≡ spare_journal.old }
 {

@@ -1,4 +1,5 @@
-use Rattle.std.proofs.Common.{◌≡◌, sum, ap, ◌∙◌, subst, arith, take_all}
+use Rattle.std.proofs.Common.{◌≡◌, ◌<◌, get_or, sum, ap, ◌∙◌, subst, arith, take_all}
+use Rattle.std.proofs.ByRecursion.{all_from_every}
 use Rattle.std.proofs.lemmas.List.Sums.{sum_by_more}
 use Rattle.histogram.specs.Bins.{NoneFull}
 use Rattle.histogram.proofs.Counts.{sum_bins}
@@ -20,6 +21,7 @@ returns g c =
       sum = all;
       history = λ readings stands room.
           all ∙ ap sum stands ∙ sum_bins g.K.Kind.place g.row.N readings
-          (λ r. omega (arith, g.met.K.Kind.within r, g.met.K.Binned.whole))
+          (all_from_every (λ r. g.K.Kind.place r < g.row.N) readings
+          (λ k d _ _. omega (arith, g.met.K.Kind.within (get_or readings k d), g.met.K.Binned.whole)))
           (subst (NoneFull g.row.N) stands room);
     }

@@ -1,0 +1,4 @@
+pub mod Runs
+pub mod Bins
+pub mod Refusals
+pub mod Figures

@@ -1,0 +1,39 @@
+-- Runs of calls on a fresh recorder, with serial number 0 and its own memories lent.
+use Rattle.std.specs.Prelude.{ℕ, List, map, replicate}
+use Rattle.line.specs.Wires.{plain}
+use Rattle.model.specs.Model.{Model, fresh}
+use Rattle.model.specs.Runs.{story, ends}
+use Rattle.model.specs.Stand.{stand}
+use Rattle.model.specs.declared.calls.Answer.{Answer}
+use Rattle.model.specs.declared.calls.Call.{Call}
+use Rattle.model.specs.declared.calls.Call.TheVariants.{Byte, Second, Collect}
+use Rattle.recorder.specs.Map.{map_at}
+use Rattle.mission.specs.declared.codes.Codes.{Codes}
+
+-- The recorder as it is made.
+abbrev pub new : Model
+new = fresh (replicate 8 0)
+
+-- A byte arrives.
+abbrev pub byte : ℕ → Call
+byte value = Byte 2048 16 value
+
+-- The codes of a second with this temperature code.
+abbrev pub codes : ℕ → Codes
+codes temperature = record { temperature = temperature; one = 50; two = 0; three = 0 }
+
+-- A second passes with this temperature code.
+abbrev pub second : ℕ → Call
+second temperature = Second 2048 16 (codes temperature)
+
+-- The reply is collected into 80 bytes.
+abbrev pub collect : Call
+collect = Collect 80
+
+-- What the calls answer, over a line with these wire bytes.
+abbrev pub answers : (List ℕ → List ℕ) → List Call → List Answer
+answers wire calls = map (λ o. o.answer) (story wire new calls)
+
+-- The byte of the address map after the calls, over the 3-wire line.
+abbrev pub map_after : List Call → ℕ → ℕ
+map_after calls address = map_at (stand (ends plain new calls)).contents address
