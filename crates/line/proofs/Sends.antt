@@ -56,14 +56,17 @@ put_refused xs i m n r y l f a e err = elim (step xs i m n r l f a e) [
       (sym err ∙ full_now ∙ sym (cond-false (leb (length xs) 32) _ _ many), left ∙ sym (cond-false (leb (length xs) 32) _ _ many))
 ]
 
-pub close_all : (xs : List ℕ) (i : ℕ) (m n : Reply) → length xs ≤ i → Front xs i m → n ≡ close_after m
-    → (◌≡◌ {A = Result (Unit {0}) Refusal} (Ok tt) (send_answer xs)) × (n ≡ send_after xs)
-close_all xs i m n l f e =
-    let few : leb (length xs) 32 ≡ true = le-leb (length xs) 32 (omega (arith, f.0)) in
-    let all : m ≡ reply xs false = f.2 ∙ ap (λ (bs : List ℕ). reply bs false) (take_all i xs l) in (
-      sym (cond-true (leb (length xs) 32) _ _ few),
-      e ∙ ap close_after all ∙ closed xs ∙ sym (cond-true (leb (length xs) 32) _ _ few),
-    )
+all_few : (xs : List ℕ) (i : ℕ) (m : Reply) → length xs ≤ i → Front xs i m → leb (length xs) 32 ≡ true
+all_few xs i m l f = le-leb (length xs) 32 (omega (arith, f.0))
+
+-- once all bytes are on the line, closing makes them wait, and what was sent is answered so
+pub close_answers : (xs : List ℕ) (i : ℕ) (m : Reply) → length xs ≤ i → Front xs i m → ◌≡◌ {A = Result (Unit {0}) Refusal} (Ok tt) (send_answer xs)
+close_answers xs i m l f = sym (cond-true (leb (length xs) 32) _ _ (all_few xs i m l f))
+
+pub close_leaves : (xs : List ℕ) (i : ℕ) (m n : Reply) → length xs ≤ i → Front xs i m → n ≡ close_after m → n ≡ send_after xs
+close_leaves xs i m n l f e =
+    let all : m ≡ reply xs false = f.2 ∙ ap (λ (bs : List ℕ). reply bs false) (take_all i xs l) in
+    e ∙ ap close_after all ∙ closed xs ∙ sym (cond-true (leb (length xs) 32) _ _ (all_few xs i m l f))
   where
     closed : (ys : List ℕ) → close_after (reply ys false) ≡ reply ys (ltb 0 (length ys))
     closed [] = refl

@@ -7,6 +7,7 @@ mod log;
 mod row;
 
 ghost use Rattle.memory.specs.Figures.{Figures};
+ghost use Rattle.std.specs.Prelude.{◌≡◌};
 
 pub use event::{EventKind, JournalEntry};
 pub use journal::Journal;
@@ -15,7 +16,8 @@ pub use row::Row;
 
 /// The worked figures of the journal and the log.
 pub fn figures_stand() -> u8
-    ensures { Figures }
+    ensures answer { result ≡ 0 }
+    ensures figures { Figures }
 {
     0
 }

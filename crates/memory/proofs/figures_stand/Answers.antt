@@ -4,4 +4,4 @@ use Rattle.memory.proofs.figures_stand.Goals as goal
 
 pub returns : goal.returns
 unfolding ring_of
-returns c = (refl, refl, refl, refl, refl, refl, refl, refl, refl, refl, refl, refl, refl, refl, refl, refl, refl, refl)
+returns c = record { answer = refl; figures = (refl, refl, refl, refl, refl, refl, refl, refl, refl, refl, refl, refl, refl, refl, refl, refl, refl, refl) }

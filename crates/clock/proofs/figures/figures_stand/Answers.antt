@@ -4,4 +4,4 @@ use Rattle.clock.proofs.figures.figures_stand.Goals as goal
 
 pub returns : goal.returns
 unfolding sum_of_first
-returns c = ((refl, refl, refl), (refl, refl, refl, refl), (refl, refl, refl, refl))
+returns c = record { answer = refl; figures = ((refl, refl, refl), (refl, refl, refl, refl), (refl, refl, refl, refl)) }

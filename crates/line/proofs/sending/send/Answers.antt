@@ -1,5 +1,6 @@
+use Rattle.std.proofs.Common.{rules}
 use Rattle.std.proofs.lemmas.Result.{err_from_is_err_and}
-use Rattle.line.proofs.Sends.{put_more, put_refused, close_all}
+use Rattle.line.proofs.Sends.{put_more, put_refused, close_answers, close_leaves}
 use Rattle.line.proofs.sending.send.Goals as goal
 
 pub returns-in_err-put : goal.returns-in_err-put
@@ -14,7 +15,10 @@ loop-byte-preserved g c =
     put_more c.args.bytes.now c.loop-byte.byte-index (g.L.Line.meaning c.loop-byte.line) _ c.put.result
     c.loop-byte-test.true c.loop-byte.invariant c.put.ensures.answer c.put.ensures.after c.in_ok-put.was
 
-pub returns : goal.returns
-returns g c =
-    let done = close_all c.args.bytes.now c.loop-byte.byte-index (g.L.Line.meaning c.loop-byte.line) _ c.loop-byte-test.false c.loop-byte.invariant c.close.ensures in
-    record { answer = done.0; after = done.1 }
+pub returns-clause-answer : goal.returns-clause-answer
+returns-clause-answer g c =
+    close_answers c.args.bytes.now c.loop-byte.byte-index (g.L.Line.meaning c.loop-byte.line) c.loop-byte-test.false c.loop-byte.invariant
+
+pub returns-clause-after : goal.returns-clause-after
+returns-clause-after g c =
+    close_leaves c.args.bytes.now c.loop-byte.byte-index (g.L.Line.meaning c.loop-byte.line) _ c.loop-byte-test.false c.loop-byte.invariant (search rules)
