@@ -1,4 +1,5 @@
 pub mod Runs
+pub mod Alarms
 pub mod Bins
 pub mod Refusals
 pub mod Figures

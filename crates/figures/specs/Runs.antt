@@ -8,7 +8,7 @@ use Rattle.model.specs.declared.calls.Answer.{Answer}
 use Rattle.model.specs.declared.calls.Call.{Call}
 use Rattle.model.specs.declared.calls.Call.TheVariants.{Byte, Second, Collect}
 use Rattle.recorder.specs.Map.{map_at}
-use Rattle.mission.specs.declared.codes.Codes.{Codes}
+use Rattle.record.specs.Figures.{codes}
 
 -- The recorder as it is made.
 abbrev pub new : Model
@@ -18,13 +18,9 @@ new = fresh (replicate 8 0)
 abbrev pub byte : ℕ → Call
 byte value = Byte 2048 16 value
 
--- The codes of a second with this temperature code.
-abbrev pub codes : ℕ → Codes
-codes temperature = record { temperature = temperature; one = 50; two = 0; three = 0 }
-
 -- A second passes with this temperature code.
 abbrev pub second : ℕ → Call
-second temperature = Second 2048 16 (codes temperature)
+second temperature = Second 2048 16 (codes temperature 50)
 
 -- The reply is collected into 80 bytes.
 abbrev pub collect : Call

@@ -1,4 +1,4 @@
-//! The worked figures of whole runs: a table of values that the definitions of the model and the recorder give, under one proof.
+//! The worked figures of the record and of whole runs: a table of values that the definitions of the model and the recorder give, under one proof.
 #![tactic(auto)]
 
 ghost use Rattle.std.specs.Prelude.{◌≡◌};

@@ -59,10 +59,11 @@ put_refused xs i m n r y l f a e err = elim (step xs i m n r l f a e) [
 all_few : (xs : List ℕ) (i : ℕ) (m : Reply) → length xs ≤ i → Front xs i m → leb (length xs) 32 ≡ true
 all_few xs i m l f = le-leb (length xs) 32 (omega (arith, f.0))
 
--- once all bytes are on the line, closing makes them wait, and what was sent is answered so
+-- once all bytes are on the line, there are few enough
 pub close_answers : (xs : List ℕ) (i : ℕ) (m : Reply) → length xs ≤ i → Front xs i m → ◌≡◌ {A = Result (Unit {0}) Refusal} (Ok tt) (send_answer xs)
 close_answers xs i m l f = sym (cond-true (leb (length xs) 32) _ _ (all_few xs i m l f))
 
+-- and closing makes them wait
 pub close_leaves : (xs : List ℕ) (i : ℕ) (m n : Reply) → length xs ≤ i → Front xs i m → n ≡ close_after m → n ≡ send_after xs
 close_leaves xs i m n l f e =
     let all : m ≡ reply xs false = f.2 ∙ ap (λ (bs : List ℕ). reply bs false) (take_all i xs l) in

@@ -13,7 +13,7 @@ use Rattle.memory.specs.declared.row.Row.TheVariants.{One}
 use Rattle.memory.specs.Rows.{bytes_of, width_of}
 use Rattle.memory.specs.Logs.{stored_row, next_row, full_after, used_of, Width, capacity, Wide, written, offset, LogStands, used_by, Kept, LogReads}
 use Rattle.memory.proofs.Stores.{stands_by, held_by, held_first}
-use Rattle.memory.proofs.Places.{bytes, length_bytes, getD_bytes, bytes_push, place_byte, place_row, some_places}
+use Rattle.memory.proofs.Places.{bytes, length_bytes, get_or-bytes, bytes_push, place_byte, place_row, some_places}
 
 -- Rows of w bytes in a store of `size` bytes, in which `fit` rows fit.
 module _ (w fit size : ℕ) (h : 0 < w) (f : 0 < fit) (whole : w * fit ≡ size) where
@@ -143,7 +143,7 @@ log_reads roll w rows memory next full s =
           let q : w * length ws ≤ w * (i + capacity w) = mul-le-mul_left w in_log.1 in
           let at : (w * i + j) % 2048 ≡ offset w i + j = rw whole at (place_byte w (capacity w) i j f b) in
           (rw at at (r.latest (w * i + j) (omega arith) (omega arith)))
-          ∙ getD_bytes w ws i j wide in_log.0 b
+          ∙ get_or-bytes w ws i j wide in_log.0 b
           ∙ ap (λ (row : Row). get_or (bytes_of row) j 0) in_log.2;
       unwritten = λ k low high.
           let q : w * length ws ≤ w * length rows = mul-le-mul_left w (written_few roll w rows) in

@@ -16,14 +16,14 @@ pub length_bytes : (w : ℕ) (rows : List Row) → Wide w rows → length (bytes
 length_bytes w [] a = sym (mul-zero w)
 length_bytes w (row ∷ rows) a = omega (arith, length-append (bytes_of row) (bytes rows), length_bytes w rows a.1, a.0)
 
-pub getD_bytes : (w : ℕ) (rows : List Row) (i j : ℕ) → Wide w rows → i < length rows → j < w → get_or (bytes rows) (w * i + j) 0 ≡ row_byte rows i j
-getD_bytes w [] i j a h k = absurd (omega arith)
-getD_bytes w (row ∷ rows) zero j a h k =
+pub get_or-bytes : (w : ℕ) (rows : List Row) (i j : ℕ) → Wide w rows → i < length rows → j < w → get_or (bytes rows) (w * i + j) 0 ≡ row_byte rows i j
+get_or-bytes w [] i j a h k = absurd (omega arith)
+get_or-bytes w (row ∷ rows) zero j a h k =
     let e : w * 0 + j ≡ j = omega arith in
     rw e (get_or-append (bytes_of row) (bytes rows) 0 j (omega (arith, a.0)))
-getD_bytes w (row ∷ rows) (suc i) j a h k =
+get_or-bytes w (row ∷ rows) (suc i) j a h k =
     let e : w * suc i + j ≡ length (bytes_of row) + (w * i + j) = omega (arith, a.0) in
-    rw (e, get_or-append-add (bytes_of row) (bytes rows) (w * i + j) 0) (getD_bytes w rows i j a.1 (omega arith) k)
+    rw (e, get_or-append-add (bytes_of row) (bytes rows) (w * i + j) 0) (get_or-bytes w rows i j a.1 (omega arith) k)
 
 pub bytes_push : (rows : List Row) (row : Row) → bytes (rows ++ row ∷ []) ≡ bytes rows ++ bytes_of row
 bytes_push rows row = sym (flat_map_more bytes_of [] rows row)

@@ -42,7 +42,7 @@ add_up : (on : Bool) (place : SampleSet → ℕ) (n : ℕ) (sets : List SampleSe
 add_up true place n sets within on room = sum_bins place n sets within room
 add_up false place n sets within on room = absurd (false≢true on)
 
--- Every run keeps the law of bins, since the codes of its calls are bytes.
+-- Every run keeps the law of bins, since the voltage codes of its calls are bytes.
 pub bins_add_up : (wire : List ℕ → List ℕ) (serial : List ℕ) (cs : List Call) → AllByRecursion Narrow cs → BinsAddUp (ends wire (fresh serial) cs)
 bins_add_up wire serial cs narrow =
     let m = ends wire (fresh serial) cs in

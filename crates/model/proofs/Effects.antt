@@ -129,12 +129,22 @@ module _ (m : Model) (byte : ℕ) where
       cond_both m.line.waits m (heard_by m byte) (Did m call)
       (λ _. kept (all_kept m)) (λ free. heard_did (heard_of (m.received ++ byte ∷ [])) free refl)
 
--- A byte that is lent memories that can serve is lent those of 2,048 bytes and 16 entries.
+-- Memories that can serve have 2,048 bytes and 16 entries.
+own_lengths : (log journal : ℕ) → serve log journal ≡ true → (log ≡ 2048) × (journal ≡ 16)
+own_lengths log journal e =
+    let both = and_parts (eqb log 2048) (eqb journal 16) e in
+    (eqb-true log 2048 both.0, eqb-true journal 16 both.1)
+
 pub own_byte : (log journal byte : ℕ) → serve log journal ≡ true → Byte 2048 16 byte ≡ Byte log journal byte
 own_byte log journal byte e =
-    let both = and_parts (eqb log 2048) (eqb journal 16) e in
-    let l : log ≡ 2048 = eqb-true log 2048 both.0 in
-    let j : journal ≡ 16 = eqb-true journal 16 both.1 in
+    let l : log ≡ 2048 = (own_lengths log journal e).0 in
+    let j : journal ≡ 16 = (own_lengths log journal e).1 in
+    cc
+
+pub own_second : (log journal : ℕ) (codes : Codes) → serve log journal ≡ true → Second 2048 16 codes ≡ Second log journal codes
+own_second log journal codes e =
+    let l : log ≡ 2048 = (own_lengths log journal e).0 in
+    let j : journal ≡ 16 = (own_lengths log journal e).1 in
     cc
 
 -- ---- seconds

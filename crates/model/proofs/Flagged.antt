@@ -24,7 +24,7 @@ use Rattle.model.specs.Rules.{started, stopped, cleared, written, replies, enabl
 use Rattle.model.specs.Rules.{sampled, rolled, passed, pressed}
 use Rattle.model.specs.Runs.{after, collect_result, heard_by}
 use Rattle.model.specs.Flagging.{Channel, Side, flag_of, status_of, bit_of, Raises, Clears}
-use Rattle.model.proofs.Effects.{either, own_byte}
+use Rattle.model.proofs.Effects.{either, own_byte, own_second}
 use Rattle.model.proofs.Flags.{strikes, set_raises, wipes, by_wipe, flag_after, status_1_clears, status_2_clears, others_clear_none}
 use Rattle.model.proofs.Ways.{same_chosen}
 use Rattle.model.proofs.Writes.{write_keeps_flags}
@@ -84,14 +84,6 @@ own_lengths log journal byte other e =
     let l : log ≡ 2048 = cc in
     let j : journal ≡ 16 = cc in
     and_from (eqb log 2048) (eqb journal 16) (eq-eqb log 2048 l) (eq-eqb journal 16 j)
-
--- A second that is lent memories that can serve is lent those of 2,048 bytes and 16 entries.
-own_second : (log journal : ℕ) (codes : Codes) → serve log journal ≡ true → Second 2048 16 codes ≡ Second log journal codes
-own_second log journal codes e =
-    let both = and_parts (eqb log 2048) (eqb journal 16) e in
-    let l : log ≡ 2048 = eqb-true log 2048 both.0 in
-    let j : journal ≡ 16 = eqb-true journal 16 both.1 in
-    cc
 
 or_false : (x y : Bool) → y ≡ false → (x || y) ≡ x
 or_false true y e = refl

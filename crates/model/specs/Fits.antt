@@ -1,4 +1,4 @@
--- Which calls can be performed: those whose memories can be lent.
+-- Which calls can be performed: those whose memories can be lent. And what the type of a call says of its codes.
 use Rattle.std.specs.Prelude.{ℕ, ◌<◌, Bool, true, ◌&&◌, ◌||◌, List, [], ◌∷◌, length, ◌==◌, nat_le}
 use Rattle.model.specs.declared.calls.Call.{Call}
 use Rattle.model.specs.declared.calls.Call.TheVariants.{Byte, Gap, Second, Press, Collect}

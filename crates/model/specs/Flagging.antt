@@ -1,5 +1,5 @@
 -- The law of limit flags: a flag is 1 exactly if some sample set raised it and no write has cleared it since.
-use Rattle.std.specs.Prelude.{◌≡◌, ℕ, ◌+◌, ◌<◌, ◌≤◌, Bool, true, false, ◌↔◌, List, [], ◌∷◌, ◌++◌, length, slice_index_or, Option}
+use Rattle.std.specs.Prelude.{◌≡◌, ℕ, ◌+◌, ◌<◌, ◌≤◌, Bool, true, false, ◌↔◌, List, [], ◌∷◌, ◌++◌, length, get_or, Option}
 use Rattle.command.specs.Commands.{heard_of}
 use Rattle.command.specs.declared.command.Command.TheVariants.{Write}
 use Rattle.command.specs.declared.command.Heard.TheVariants.{Whole}
@@ -102,8 +102,8 @@ module _ (wire : List ℕ → List ℕ) (accepted : List ℕ → Option (List �
   pub record Raised (serial : List ℕ) (cs : List Call) (i : ℕ) (channel : Channel) (side : Side) : Type 0 where
     pub j : ℕ
     pub earlier : j < i
-    pub raises : Raises (model_at wire accepted serial cs j) (slice_index_or cs j Gap) (model_at wire accepted serial cs (j + 1)) channel side
-    pub since : (k : ℕ) → j < k → k < i → Clears (model_at wire accepted serial cs k) (slice_index_or cs k Gap) channel side → ⊥
+    pub raises : Raises (model_at wire accepted serial cs j) (get_or cs j Gap) (model_at wire accepted serial cs (j + 1)) channel side
+    pub since : (k : ℕ) → j < k → k < i → Clears (model_at wire accepted serial cs k) (get_or cs k Gap) channel side → ⊥
 
   -- After the first i calls of a run a flag is 1 exactly if one of them raised it, and none after that one cleared it.
   abbrev pub Flags : List ℕ → List Call → Type 0

@@ -8,5 +8,5 @@ pub returns : goal.returns
 unfolding taken ring_of bins_after
 returns c = record {
   answer = refl;
-  figures = record { bins = (refl, refl, refl); refusals = ((refl, refl, refl), (refl, refl, refl, refl, refl)) };
+  figures = record { alarms = refl; bins = (refl, refl, refl); refusals = ((refl, refl, refl), (refl, refl, refl, refl, refl)) };
 }
