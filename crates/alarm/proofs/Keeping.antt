@@ -1,6 +1,7 @@
 -- One more set: what it does to the first m pieces, which a side holds.
 use Rattle.std.proofs.Common.{◌≡◌, ℕ, suc, ◌+◌, ◌-◌, ◌<◌, ◌≤◌, Bool, true, false, ◌&&◌, ltb, leb, ◌⊎◌, List, [], ◌∷◌, ◌++◌, length, get_or, take, replicate, sym, refl, ap, ◌∙◌, inl, inr, arith}
 use lib.Seq.{append_snoc}
+use Rattle.std.proofs.Math.Bool.{and-true, and-false}
 use Rattle.std.proofs.lemmas.List.{length_push, length-take-le, take_all, take-append-le, set_at, get_or_at}
 use Rattle.std.proofs.lemmas.Bool.{lt-ltb, le-ltb, le-leb, lt-leb, cases_lt}
 use Rattle.alarm.specs.declared.record.AlarmRecord.{AlarmRecord}
@@ -13,24 +14,16 @@ use Rattle.alarm.proofs.Histories.{short, short_push, Newer, grows, begins, newe
 abbrev holds : ℕ → List AlarmRecord → Bool → Held
 holds m rs going = record { records = padded m (take m rs); used = length (take m rs); growing = going && leb (length rs) m }
 
-and_true : (b : Bool) → (b && true) ≡ b
-and_true true = refl
-and_true false = refl
-
-and_false : (b : Bool) → (b && false) ≡ false
-and_false true = refl
-and_false false = refl
-
 -- Where there is place for all pieces, they are held.
 holds_all : (m : ℕ) (rs : List AlarmRecord) (going : Bool) → length rs ≤ m → holds m rs going ≡ record { records = padded m rs; used = length rs; growing = going }
-holds_all m rs going h = rw (take_all m rs h, le-leb (length rs) m h, and_true going)
+holds_all m rs going h = rw (take_all m rs h, le-leb (length rs) m h, and-true going)
 
 -- Of more than m pieces the first m are held, and none of them grows.
 holds_first : (m : ℕ) (rs : List AlarmRecord) (r : AlarmRecord) (going : Bool) → m ≤ length rs
     → holds m (rs ++ r ∷ []) going ≡ record { records = padded m (take m rs); used = m; growing = false }
 holds_first m rs r going h =
     let more : m < length (rs ++ r ∷ []) = omega (arith, length_push rs r) in
-    rw (take-append-le m rs (r ∷ []) h, length-take-le m rs h, lt-leb (length (rs ++ r ∷ [])) m more, and_false going)
+    rw (take-append-le m rs (r ∷ []) h, length-take-le m rs h, lt-leb (length (rs ++ r ∷ [])) m more, and-false going)
 
 -- A full table keeps what it holds.
 full_held : (m stamp : ℕ) (rs : List AlarmRecord) → let h : Held = record { records = rs; used = m; growing = false } in h ≡ noted m h stamp true

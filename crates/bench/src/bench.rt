@@ -1,17 +1,14 @@
 //! A recorder on the asynchronous line, with the memories that it is lent.
 use hex_text::ShortBytes;
-use line::{Asynchronous, Line};
+use line::{Asynchronous, Line, WIRE_BYTES};
 use memory::{Journal, JournalEntry, Log};
 use mission::Codes;
-use recorder::Recorder;
+use recorder::{Recorder, SERIAL_BYTES};
 use refusal::Refusal;
 use script::{Answer, Call};
 
-/// How many wire bytes a reply has at most, on any line.
-const WIRE_BYTES: usize = 80;
-
 /// The serial number of the recorder on the bench.
-const SERIAL: [u8; 8] = [0; 8];
+const SERIAL: [u8; SERIAL_BYTES] = [0; SERIAL_BYTES];
 
 #[derive(Drop)]
 pub(crate) struct Bench {
@@ -37,74 +34,48 @@ impl Bench {
 
     /// Performs a call, and answers with a line.
     pub(crate) fn perform(&mut self, call: Call) -> ShortBytes {
-        match call {
-            Call::Byte(byte) => {
-                let answer = self.recorder.byte(&mut self.log, &mut self.journal, byte);
-                done(answer).text()
-            }
-            Call::Gap => {
-                self.recorder.gap();
-                done(Ok(())).text()
-            }
-            Call::Second {
-                temperature,
-                one,
-                two,
-                three,
-            } => {
-                let codes = Codes {
-                    temperature,
-                    one,
-                    two,
-                    three,
-                };
-                let answer = self
-                    .recorder
-                    .second(&mut self.log, &mut self.journal, codes);
-                done(answer).text()
-            }
-            Call::Press => {
-                let answer = self.recorder.press(&mut self.log, &mut self.journal);
-                pressed(answer).text()
-            }
-            Call::Collect => self.collect(),
-        }
-    }
-
-    /// Collects the reply that waits, and answers with its wire bytes.
-    fn collect(&mut self) -> ShortBytes {
         let mut wire = [0; WIRE_BYTES];
-        match self.recorder.collect(&mut wire) {
-            Ok(count) => Answer::Wire(&wire[0..count]).text(),
+        match self.answer(call, &mut wire) {
+            Ok(answer) => answer.text(),
             Err(refusal) => refused(refusal).text(),
         }
     }
-}
 
-/// The answer of a call that says only whether it was accepted.
-fn done<'a>(answer: Result<(), Refusal>) -> Answer<'a> {
-    match answer {
-        Ok(()) => Answer::Done,
-        Err(refusal) => refused(refusal),
-    }
-}
-
-/// The answer of a press of the button.
-fn pressed<'a>(answer: Result<bool, Refusal>) -> Answer<'a> {
-    match answer {
-        Ok(started) => Answer::Pressed(started),
-        Err(refusal) => refused(refusal),
+    /// Performs a call. A collection writes its wire bytes to the front of `wire`.
+    fn answer<'a>(
+        &mut self,
+        call: Call,
+        wire: &'a mut [u8; WIRE_BYTES],
+    ) -> Result<Answer<'a>, Refusal> {
+        match call {
+            Call::Byte(byte) => {
+                self.recorder.byte(&mut self.log, &mut self.journal, byte)?;
+                Ok(Answer::Done)
+            }
+            Call::Gap => {
+                self.recorder.gap();
+                Ok(Answer::Done)
+            }
+            Call::Second(codes) => {
+                self.recorder
+                    .second(&mut self.log, &mut self.journal, codes)?;
+                Ok(Answer::Done)
+            }
+            Call::Press => {
+                let started = self.recorder.press(&mut self.log, &mut self.journal)?;
+                Ok(Answer::Pressed(started))
+            }
+            Call::Collect => {
+                let count = self.recorder.collect(wire)?;
+                Ok(Answer::Wire(&wire[0..count]))
+            }
+        }
     }
 }
 
 /// The answer of a call that is refused.
 pub(crate) fn refused<'a>(refusal: Refusal) -> Answer<'a> {
     Answer::Refused(refusal.number())
-}
-
-/// The answer to a line that names no call.
-pub(crate) fn bad<'a>() -> Answer<'a> {
-    Answer::Bad
 }
 
 #[cfg(test)]
@@ -169,7 +140,10 @@ mod tests {
         assert_eq!(rt; refusal.number(), 12);
         assert_eq!(rt; refusal.place(), 4);
         assert_eq!(rt; short, [0xEE; 3]);
-        assert_eq!(rt; bench.collect().as_slice(), b"00 00 00 00".as_slice());
+        assert_eq!(rt;
+            bench.perform(Call::Collect).as_slice(),
+            b"00 00 00 00".as_slice()
+        );
         Ok(())
     }
 
@@ -183,7 +157,7 @@ mod tests {
         send(&rt, &mut bench, &[0x22, 0x0E, 0x10]);
         send(&rt, &mut bench, &[0x22, 0x0D, 0x01]);
         send(&rt, &mut bench, &[0x33, 0x00, 0x00]);
-        let before = bench.collect();
+        let before = bench.perform(Call::Collect);
         // In the middle of a read each call is refused, with either memory.
         send(&rt, &mut bench, &[0x33, 0x00]);
         check_refused(
@@ -207,7 +181,7 @@ mod tests {
         assert_eq!(rt; short, [0xEE; Log::BYTES - 1]);
         // The read goes on, and shows what it showed before.
         send(&rt, &mut bench, &[0x00]);
-        assert_eq!(rt; bench.collect().as_slice(), before.as_slice());
+        assert_eq!(rt; bench.perform(Call::Collect).as_slice(), before.as_slice());
         Ok(())
     }
 

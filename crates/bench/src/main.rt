@@ -5,9 +5,9 @@
 
 mod bench;
 
-use crate::bench::{Bench, bad, refused};
+use crate::bench::{Bench, refused};
 use hex_text::ShortBytes;
-use script::Call;
+use script::{Answer, Call};
 use std::io;
 use std::io::{BufRead, BufReader, Write};
 
@@ -29,7 +29,7 @@ fn perform_script(rt: &HostRuntime, bench: &mut Bench) -> io::Result<()> {
 fn perform_line(bench: &mut Bench, line: &[u8]) -> ShortBytes {
     match Call::parse(line) {
         Some(call) => bench.perform(call),
-        None => bad().text(),
+        None => Answer::Bad.text(),
     }
 }
 

@@ -1,6 +1,3 @@
 mod Days
 mod Elapsed
-mod Others
 mod Sums
-mod Tests
-mod Weekdays

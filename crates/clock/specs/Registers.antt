@@ -1,8 +1,11 @@
 -- The registers of the clock.
-use Rattle.std.specs.Prelude.{◌≡◌, ℕ, Bool, cond, ◌&&◌, Some, None, Option, ◌==◌, ◌≢◌}
+use Rattle.std.specs.Prelude.{◌≡◌, ℕ, Bool, cond, ◌&&◌, Some, None, Option, Ok, Err, Result, MatchResult, ◌==◌, ◌≢◌}
 use Rattle.clock.specs.declared.calendar.Moment.{Moment}
+use Rattle.clock.specs.declared.clock.access.BadField.{BadField}
+use Rattle.clock.specs.declared.clock.access.BadField.TheVariants.{NotBcd, NoMoment}
 use Rattle.clock.specs.declared.registers.ClockRegister.{ClockRegister}
 use Rattle.clock.specs.declared.registers.ClockRegister.TheVariants.{Seconds, Minutes, Hours, Weekday, Date, Month, Year}
+use Rattle.clock.specs.declared.registers.NoRegister.{NoRegister}
 use Rattle.clock.specs.Bcd.{Bcd, bcd_of, is_bcd, number_of}
 use Rattle.clock.specs.Calendar.{Exists, moment_exists}
 
@@ -16,6 +19,13 @@ register_at address =
     (cond (address == 4) (Some Date)
     (cond (address == 5) (Some Month)
     (cond (address == 6) (Some Year) None))))))
+
+-- The result is the register at the address, or names the address where there is none.
+abbrev pub Addressed : ℕ → Result ClockRegister NoRegister → Type 0
+Addressed address result =
+    MatchResult result
+    (λ register. register_at address ≡ Some register)
+    (λ e. (e.0 ≡ address) × (register_at address ≡ None))
 
 -- Each register holds one field of the moment.
 abbrev pub field_of : Moment → ClockRegister → ℕ
@@ -60,3 +70,8 @@ Acceptable m register byte = Bcd byte × Exists (replaced m register (number_of 
 -- Acceptable as a test.
 abbrev pub accepts : Moment → ClockRegister → ℕ → Bool
 accepts m register byte = is_bcd byte && moment_exists (replaced m register (number_of byte))
+
+-- What a write answers: a byte that is not BCD is refused before one with which the moment would not exist.
+abbrev pub write_answer : Moment → ClockRegister → ℕ → Result Unit BadField
+write_answer m register byte =
+    cond (is_bcd byte) (cond (moment_exists (replaced m register (number_of byte))) (Ok tt) (Err NoMoment)) (Err NotBcd)

@@ -17,13 +17,17 @@ at_time m hour minute second =
 abbrev pub first_moment : Moment
 first_moment = midnight 1 1 1 0
 
+-- The number after another, where the first comes again after the last.
+abbrev pub after : ℕ → ℕ → ℕ → ℕ
+after first last n = cond (nat_lt n last) (n + 1) first
+
 -- After weekday 7 comes weekday 1.
 abbrev pub next_weekday : ℕ → ℕ
-next_weekday weekday = cond (nat_lt weekday 7) (weekday + 1) 1
+next_weekday weekday = after 1 7 weekday
 
 -- After 2099 comes 2000.
 abbrev pub next_year : ℕ → ℕ
-next_year year = cond (nat_lt year 99) (year + 1) 0
+next_year year = after 0 99 year
 
 -- Midnight of the first of the month after a moment's month, with the weekday given.
 abbrev pub first_of_next_month : Moment → ℕ → Moment

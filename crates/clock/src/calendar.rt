@@ -38,39 +38,41 @@ fn is_leap(year: u8) -> bool
     year % 4 == 0
 }
 
-/// How many days the month has in the year.
-pub(crate) fn month_days(month: u8, year: u8) -> u8
-    requires { (1 ≤ month) × (month ≤ 12) }
-    ensures { result ≡ days_in year month }
-{
-    let days = MONTH_DAYS[(month - 1) as usize];
-    if month == FEBRUARY && is_leap(year) {
-        days + 1
-    } else {
-        days
+impl Moment {
+    /// How many days the moment's month has in its year.
+    pub(crate) fn month_days(self) -> u8
+        requires { (1 ≤ self.month) × (self.month ≤ 12) }
+        ensures { result ≡ days_in self.year self.month }
+    {
+        let days = MONTH_DAYS[(self.month - 1) as usize];
+        if self.month == FEBRUARY && is_leap(self.year) {
+            days + 1
+        } else {
+            days
+        }
     }
-}
 
-/// Whether the moment's date stands in the calendar.
-fn date_exists(moment: Moment) -> bool
-    ensures { result ≡ date_exists moment }
-{
-    1 <= moment.month
-        && moment.month <= LAST_MONTH
-        && moment.year <= LAST_YEAR
-        && 1 <= moment.date
-        && moment.date <= month_days(moment.month, moment.year)
-}
+    /// Whether the date stands in the calendar.
+    fn date_exists(self) -> bool
+        ensures { result ≡ date_exists self }
+    {
+        1 <= self.month
+            && self.month <= LAST_MONTH
+            && self.year <= LAST_YEAR
+            && 1 <= self.date
+            && self.date <= self.month_days()
+    }
 
-/// Whether there is such a moment.
-pub(crate) fn exists(moment: Moment) -> bool
-    ensures value { result ≡ moment_exists moment }
-    ensures decides { Decides result (Exists moment) }
-{
-    moment.second <= LAST_SECOND
-        && moment.minute <= LAST_MINUTE
-        && moment.hour <= LAST_HOUR
-        && 1 <= moment.weekday
-        && moment.weekday <= LAST_WEEKDAY
-        && date_exists(moment)
+    /// Whether there is such a moment.
+    pub(crate) fn exists(self) -> bool
+        ensures value { result ≡ moment_exists self }
+        ensures decides { Decides result (Exists self) }
+    {
+        self.second <= LAST_SECOND
+            && self.minute <= LAST_MINUTE
+            && self.hour <= LAST_HOUR
+            && 1 <= self.weekday
+            && self.weekday <= LAST_WEEKDAY
+            && self.date_exists()
+    }
 }

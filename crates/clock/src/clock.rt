@@ -1,13 +1,15 @@
 //! The clock, which always stands at a moment that exists.
 mod access;
 mod running;
+mod ticking;
 
 ghost use Rattle.clock.specs.Calendar.{DateExists, Exists, TimeExists, WeekdayExists};
 ghost use Rattle.clock.specs.Elapsed.{seconds_since};
 ghost use Rattle.clock.specs.Ticking.{first_moment};
 ghost use Rattle.std.specs.Prelude.{◌≡◌, MatchOption};
 
-use crate::calendar::{Moment, exists};
+use crate::calendar::Moment;
+pub use access::BadField;
 
 /// A clock that stands at a moment that exists.
 #[derive(Clone, Copy)]
@@ -41,7 +43,7 @@ impl Clock {
     pub fn at(moment: Moment) -> Option<Clock>
         ensures { MatchOption result (Exists moment → ⊥) (λ c. Exists moment × (c.moment ≡ moment)) }
     {
-        if exists(moment) {
+        if moment.exists() {
             Some(Clock { moment })
         } else {
             None

@@ -6,9 +6,8 @@ mod calendar;
 mod clock;
 mod figures;
 mod registers;
-mod ticking;
 
 pub use calendar::Moment;
-pub use clock::Clock;
+pub use clock::{BadField, Clock};
 pub use figures::figures_stand;
-pub use registers::ClockRegister;
+pub use registers::{ClockRegister, NoRegister};

@@ -1,5 +1,5 @@
 -- A number stored in three bytes is read back, byte for byte.
-use Prim.Native.Nat.{ℕ, ◌+◌, ◌*◌, ◌/◌, ◌%◌, ◌<◌}
+use Prim.Native.Nat.{ℕ, ◌<◌}
 use native.Mathlib.Omega.{arith}
 use mathlib.Core.Path.{◌≡◌}
 use mathlib.Core.List.{List, [], ◌∷◌}
@@ -11,11 +11,5 @@ pub stored : (bytes : List ℕ) (n : ℕ) → length bytes ≡ 3 → get_or byte
 stored [] n l a b c e = absurd (omega arith)
 stored (x ∷ []) n l a b c e = absurd (omega arith)
 stored (x ∷ y ∷ []) n l a b c e = absurd (omega arith)
-stored (x ∷ y ∷ z ∷ []) n l a b c e =
-    let rest : n / 256 ≡ y + 256 * z = omega arith in
-    let low : n % 256 ≡ x = omega arith in
-    let middle : (y + 256 * z) % 256 ≡ y = omega arith in
-    let high : n / 65536 ≡ z = omega arith in
-    let whole : z % 256 ≡ z = omega arith in
-    rw (low, rest, middle, high, whole)
+stored (x ∷ y ∷ z ∷ []) n l a b c e = grind arith
 stored (x ∷ y ∷ z ∷ w ∷ more) n l a b c e = absurd (omega arith)

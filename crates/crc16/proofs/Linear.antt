@@ -1,5 +1,5 @@
 -- The division is linear over exclusive or, so that eight bits can be taken by one look into a table.
-use Rattle.std.proofs.Common.{◌≡◌, ℕ, zero, suc, ◌+◌, ◌*◌, ◌/◌, ◌%◌, ◌^◌, ◌<◌, Bool, true, false, cond, eqb, sym, refl, ap, ◌∙◌, ap₂, le_of_suc-le-suc, not-suc-le-zero, add-zero, mod-eq_of_lt, pow-suc, zero-add, mul-one, arith}
+use Rattle.std.proofs.Common.{◌≡◌, ℕ, zero, suc, ◌+◌, ◌*◌, ◌/◌, ◌%◌, ◌^◌, ◌<◌, Bool, true, false, cond, eqb, sym, refl, ap, ◌∙◌, ap₂, add-zero, mod-eq_of_lt, pow-suc, zero-add, mul-one, arith}
 use lib.Arith.{lt-one}
 use lib.Bits.{bit_xor, xor_zero_r, xor_assoc, xor_comm, xor_self, xor_shr, xor_mod, xor_block, block_half, block_odd}
 use lib.Pow.{split}
@@ -21,9 +21,9 @@ lowest_digits zero zero p q = refl
 lowest_digits zero (suc zero) p q = refl
 lowest_digits (suc zero) zero p q = refl
 lowest_digits (suc zero) (suc zero) p q = refl
-lowest_digits zero (suc (suc y)) p q = absurd (not-suc-le-zero (le_of_suc-le-suc (le_of_suc-le-suc q)))
-lowest_digits (suc zero) (suc (suc y)) p q = absurd (not-suc-le-zero (le_of_suc-le-suc (le_of_suc-le-suc q)))
-lowest_digits (suc (suc x)) y p q = absurd (not-suc-le-zero (le_of_suc-le-suc (le_of_suc-le-suc p)))
+lowest_digits zero (suc (suc y)) p q = absurd (omega arith)
+lowest_digits (suc zero) (suc (suc y)) p q = absurd (omega arith)
+lowest_digits (suc (suc x)) y p q = absurd (omega arith)
 
 lowest_xor : (x y : ℕ) → lowest (bit_xor x y) ≡ differ (lowest x) (lowest y)
 lowest_xor x y = ap (λ (n : ℕ). eqb n 1) (xor_mod x y 1) ∙ lowest_digits (x % 2) (y % 2) (omega arith) (omega arith)

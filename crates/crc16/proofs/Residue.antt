@@ -1,9 +1,15 @@
 -- A message followed by its own CRC, the low byte first, has the CRC 0.
 use Rattle.std.proofs.Common.{◌≡◌, ℕ, ◌/◌, ◌%◌, ◌^◌, ◌<◌, Bool, true, false, List, [], ◌∷◌, ◌++◌, sym, refl, ap, ◌∙◌, zero-add, arith}
+use Rattle.std.specs.List.{fold}
 use lib.Bits.{xor_lt}
 use lib.Pow.{split}
 use Rattle.crc16.specs.Division.{lowest, low_bits, bits_of, differ, taken, divided, crc_of}
 use Rattle.crc16.proofs.Linear.{taken_away, taken_is, shifted_out}
+
+-- byte by byte, the division leaves what it leaves of all bits
+pub byte_by_byte : (r : ℕ) (xs : List ℕ) → fold (λ crc byte. divided crc (low_bits 8 byte)) r xs ≡ divided r (bits_of xs)
+byte_by_byte r [] = refl
+byte_by_byte r (x ∷ xs) = byte_by_byte (divided r (low_bits 8 x)) xs
 
 -- a message after another
 joined : (r : ℕ) (xs ys : List ℕ) → divided r (bits_of (xs ++ ys)) ≡ divided (divided r (bits_of xs)) (bits_of ys)

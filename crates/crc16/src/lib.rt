@@ -28,11 +28,7 @@ pub fn crc16(message: &[u8]) -> u16
     ensures value { result ≡ crc_of message.now }
     ensures residue { crc_of (message.now ++ (result % 256 ∷ (result / 256 ∷ []))) ≡ 0 }
 {
-    let mut crc = 0;
-    for byte in message {
-        crc = step(crc, *byte);
-    }
-    crc
+    message.iter().fold(0, |crc, byte| step(crc, *byte))
 }
 
 /// The CRC of the byte 01h, of the byte FFh, and of the ASCII digits 1 to 9.

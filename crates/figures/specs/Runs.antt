@@ -4,9 +4,10 @@ use Rattle.line.specs.Wires.{plain}
 use Rattle.model.specs.Model.{Model, fresh}
 use Rattle.model.specs.Runs.{story, ends}
 use Rattle.model.specs.Stand.{stand}
-use Rattle.model.specs.declared.calls.Answer.{Answer}
+use Rattle.model.specs.Answers.{Answer}
+use Rattle.model.specs.declared.calls.Action.TheVariants.{Byte, Second}
 use Rattle.model.specs.declared.calls.Call.{Call}
-use Rattle.model.specs.declared.calls.Call.TheVariants.{Byte, Second, Collect}
+use Rattle.model.specs.declared.calls.Call.TheVariants.{Lent, Collect}
 use Rattle.recorder.specs.Map.{map_at}
 use Rattle.record.specs.Figures.{codes}
 
@@ -16,11 +17,11 @@ new = fresh (replicate 8 0)
 
 -- A byte arrives.
 abbrev pub byte : ℕ → Call
-byte value = Byte 2048 16 value
+byte value = Lent 2048 16 (Byte value)
 
 -- A second passes with this temperature code.
 abbrev pub second : ℕ → Call
-second temperature = Second 2048 16 (codes temperature 50)
+second temperature = Lent 2048 16 (Second (codes temperature 50))
 
 -- The reply is collected into 80 bytes.
 abbrev pub collect : Call

@@ -1,3 +1,3 @@
-mod Fronts
+pub mod Fronts
 mod Texts
 mod Parses

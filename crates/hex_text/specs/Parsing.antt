@@ -1,30 +1,26 @@
--- How a line is taken apart, one byte after the other.
-use Rattle.std.specs.Prelude.{◌≡◌, ℕ, cond, List, [], ◌∷◌, ◌++◌, take, Some, None, Option, ◌==◌}
+-- How a line is taken apart, from its front.
+use Rattle.std.specs.Prelude.{◌≡◌, ℕ, ◌<◌, List, ◌∷◌, ◌++◌, take, Some, None, Option}
+use Rattle.std.specs.List.{AllByRecursion}
 use Rattle.hex_text.specs.declared.short.ShortBytes.{ShortBytes}
-use Rattle.hex_text.specs.Digits.{byte_of}
+use Rattle.hex_text.specs.Digits.{two_digits}
 use Rattle.hex_text.specs.Short.{held}
+use Rattle.hex_text.specs.Text.{spaced}
 
--- a byte before others
-abbrev pub before : Option ℕ → Option (List ℕ) → Option (List ℕ)
-before None bytes = None
-before (Some byte) None = None
-before (Some byte) (Some bytes) = Some (byte ∷ bytes)
+-- the text begins with a space and the two digits of this byte, and this rest stands behind them
+pub record Begins (text : List ℕ) (byte : ℕ) (rest : List ℕ) : Type 0 where
+  pub narrow : byte < 256
+  pub written : text ≡ 32 ∷ two_digits byte ++ rest
 
--- the bytes of a rest of a line, each after a space
-abbrev pub parsed_rest : List ℕ → Option (List ℕ)
-parsed_rest [] = Some []
-parsed_rest (space ∷ []) = None
-parsed_rest (space ∷ (high ∷ [])) = None
-parsed_rest (space ∷ (high ∷ (low ∷ rest))) = before (cond (space == 32) (byte_of high low) None) (parsed_rest rest)
+-- the text begins with no byte in this form
+abbrev pub NoByte : List ℕ → Type 0
+NoByte text = (byte : ℕ) (rest : List ℕ) → Begins text byte rest → ⊥
 
-abbrev pub parsed : List ℕ → Option (List ℕ)
-parsed [] = Some []
-parsed (high ∷ []) = None
-parsed (high ∷ (low ∷ rest)) = before (byte_of high low) (parsed_rest rest)
+-- these bytes are what the text says, each after a space
+pub record SaysSpaced (text bytes : List ℕ) : Type 0 where
+  pub narrow : AllByRecursion (λ byte. byte < 256) bytes
+  pub written : text ≡ spaced bytes
 
--- the answer that stands for these parsed bytes after those that were held before
-abbrev pub HeldAfter : List ℕ → Option (List ℕ) → Option ShortBytes → Type 0
-HeldAfter old None None = Unit {0}
-HeldAfter old None (Some s) = ⊥
-HeldAfter old (Some bytes) None = ⊥
-HeldAfter old (Some bytes) (Some s) = held s ≡ take 240 (old ++ bytes)
+-- a rest that is read says bytes, which are held behind the old ones as far as there is room; one that is not read says none
+abbrev pub ReadAfter : List ℕ → List ℕ → Option ShortBytes → Type 0
+ReadAfter old text None = (bytes : List ℕ) → SaysSpaced text bytes → ⊥
+ReadAfter old text (Some s) = (bytes : List ℕ) × SaysSpaced text bytes × (held s ≡ take 240 (old ++ bytes))

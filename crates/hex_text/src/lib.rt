@@ -7,4 +7,4 @@ mod typing;
 
 pub use pairs::{byte, digit, digits};
 pub use short::{CAPACITY, ShortBytes};
-pub use typing::{read, write};
+pub use typing::{next_spaced, push_spaced, read, write};

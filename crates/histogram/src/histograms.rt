@@ -1,5 +1,5 @@
 //! The bins of one kind of reading, and counting into them.
-ghost use Rattle.std.specs.Prelude.{◌≡◌, List, [], ◌∷◌, ◌++◌, length, replicate, if◌then◌else◌, Some, None, sum, nat_lt, slice_index};
+ghost use Rattle.std.specs.Prelude.{◌≡◌, ◌≤◌, List, [], ◌∷◌, ◌++◌, length, replicate, if◌then◌else◌, Some, None, sum, nat_lt, slice_index};
 ghost use Rattle.histogram.specs.Bins.{NoneFull, bins_after, raised};
 
 use crate::kinds::Binned;
@@ -44,7 +44,7 @@ impl<K: Binned<N>, const N: usize> Histogram<K, N> {
     pub fn get(&self, bin: usize) -> Option<u16>
         ensures { result ≡ (if nat_lt bin N then Some (slice_index self.now.bins bin) else None) }
     {
-        if bin < N { Some(self.bins[bin]) } else { None }
+        self.bins.get(bin).copied()
     }
 
     /// All bins, from bin 0 on.
@@ -60,11 +60,14 @@ impl<K: Binned<N>, const N: usize> Histogram<K, N> {
         ensures sum { result ≡ sum self.now.bins }
         ensures history { (readings : List K.Reading) → self.now.bins ≡ bins_after K.Kind.place N readings → NoneFull N self.now.bins → result ≡ length readings }
     {
-        let bins: &[u16] = &self.bins;
-        let mut total = 0;
-        for held in bins {
-            total += u32::from(*held);
-        }
-        total
+        sum_of(&self.bins)
     }
+}
+
+/// The sum of bins so few that it fits 32 bits.
+fn sum_of(bins: &[u16]) -> u32
+    requires { length bins.now ≤ 65536 }
+    ensures { result ≡ sum bins.now }
+{
+    bins.iter().map(|held| u32::from(*held)).sum()
 }

@@ -14,5 +14,5 @@ mod voltages;
 pub use figures::figures_stand;
 pub use histograms::Histogram;
 pub use kinds::{Binned, Kind};
-pub use temperatures::{Temperature, TemperatureCode, TemperatureHistogram};
+pub use temperatures::{NoTemperature, Temperature, TemperatureCode, TemperatureHistogram};
 pub use voltages::{Voltage, VoltageCode, VoltageHistogram};

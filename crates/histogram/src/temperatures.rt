@@ -1,14 +1,11 @@
 //! Temperature readings.
-ghost use Rattle.std.specs.Prelude.{◌≡◌, ◌<◌, ◌≤◌, MatchOption};
+ghost use Rattle.std.specs.Prelude.{◌≡◌, ◌<◌, ◌≤◌, MatchResult};
 ghost use Rattle.histogram.specs.Codes.{bin_of_code};
 ghost use Rattle.std.proofs.Common.{rules};
 
 use crate::codes::bin_of;
 use crate::histograms::Histogram;
 use crate::kinds::{Binned, Kind};
-
-/// The highest code of a temperature.
-const TOP_CODE: u8 = 250;
 
 /// The code of a temperature, 0 to 250.
 #[derive(Clone, Copy)]
@@ -18,23 +15,35 @@ pub struct TemperatureCode {
 }
 
 impl TemperatureCode {
-    /// The temperature of a code; none above 250.
-    pub fn new(code: u8) -> Option<TemperatureCode>
-        ensures { MatchOption result (250 < code) (λ t. t.code ≡ code) }
-    {
-        if code <= TOP_CODE {
-            Some(TemperatureCode { code })
+    /// The highest code of a temperature.
+    pub const TOP: u8 = 250;
+}
+
+/// A code above 250, which is no temperature.
+#[derive(Clone, Copy, PartialEq, Eq, Debug)]
+pub struct NoTemperature(pub u8);
+
+/// The temperature of a code.
+impl TryFrom<u8> for TemperatureCode {
+    type Error = NoTemperature;
+
+    ghost try_from_gives = { λ code result. MatchResult result (λ t. t.code ≡ code) (λ e. (e.0 ≡ code) × (250 < code)) };
+
+    fn try_from(code: u8) -> Result<Self, NoTemperature> {
+        if code <= TemperatureCode::TOP {
+            Ok(TemperatureCode { code })
         } else {
-            None
+            Err(NoTemperature(code))
         }
     }
+}
 
-    /// The code, at most 250.
-    pub fn code(&self) -> u8
-        ensures value { result ≡ self.now.code }
-        ensures lawful { result ≤ 250 }
-    {
-        self.code
+/// The code of a temperature, at most 250.
+impl From<TemperatureCode> for u8 {
+    ghost from_gives = { λ t code. (code ≡ t.code) × (code ≤ 250) };
+
+    fn from(temperature: TemperatureCode) -> u8 {
+        temperature.code
     }
 }
 

@@ -14,19 +14,21 @@ pub struct VoltageCode {
     ghost byte: { code < 256 },
 }
 
-impl VoltageCode {
-    /// The voltage of a code.
-    pub fn new(code: u8) -> VoltageCode
-        ensures { result.code ≡ code }
-    {
+/// The voltage of a code.
+impl From<u8> for VoltageCode {
+    ghost from_gives = { λ code v. v.code ≡ code };
+
+    fn from(code: u8) -> VoltageCode {
         VoltageCode { code }
     }
+}
 
-    /// The code.
-    pub fn code(&self) -> u8
-        ensures { result ≡ self.now.code }
-    {
-        self.code
+/// The code of a voltage.
+impl From<VoltageCode> for u8 {
+    ghost from_gives = { λ v code. code ≡ v.code };
+
+    fn from(voltage: VoltageCode) -> u8 {
+        voltage.code
     }
 }
 

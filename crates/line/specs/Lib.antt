@@ -3,5 +3,4 @@ pub mod Collecting
 pub mod Store
 pub mod Wires
 pub mod Sending
-pub mod Held
 pub mod Frames

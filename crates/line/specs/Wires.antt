@@ -1,27 +1,44 @@
 -- The wire bytes of each line, and what its far end accepts.
-use Rattle.std.specs.Prelude.{ℕ, ◌+◌, ◌-◌, ◌*◌, ◌/◌, ◌%◌, Bool, cond, ◌&&◌, List, [], ◌∷◌, ◌++◌, length, take, Some, None, Option, ◌==◌, nat_le, slice_index}
+use Rattle.std.specs.Prelude.{ℕ, ◌+◌, ◌-◌, ◌/◌, ◌%◌, Bool, cond, ◌&&◌, List, [], ◌∷◌, ◌++◌, length, take, drop, Some, None, Option, nat_le, nat_lt}
+use Rattle.std.specs.Str.{bytes_eq}
 use Rattle.crc16.specs.Division.{crc_of}
 
--- the 3-wire line sends the data alone
+-- the data and then its check bytes
+abbrev pub checked : (List ℕ → List ℕ) → List ℕ → List ℕ
+checked checks xs = xs ++ checks xs
+
+-- all but the last n bytes
+abbrev pub data_of : ℕ → List ℕ → List ℕ
+data_of n wire = take (length wire - n) wire
+
+-- the last n bytes are the check bytes of those before
+abbrev pub right_checks : ℕ → (List ℕ → List ℕ) → List ℕ → Bool
+right_checks n checks wire = bytes_eq (drop (length wire - n) wire) (checks (data_of n wire))
+
+-- a far end takes 1 to 32 data bytes, where the n bytes behind them are right: in all 1 to 32 bytes on the
+-- 3-wire line, and 3 to 34 on the asynchronous line
+abbrev pub from_checked : ℕ → (List ℕ → List ℕ) → List ℕ → Option (List ℕ)
+from_checked n checks wire =
+    cond (nat_lt n (length wire) && nat_le (length wire) (32 + n) && right_checks n checks wire) (Some (data_of n wire)) None
+
+-- the 3-wire line has no check bytes
+abbrev pub no_bytes : List ℕ → List ℕ
+no_bytes xs = []
+
+-- it sends the data alone, and takes it
 abbrev pub plain : List ℕ → List ℕ
-plain xs = xs
+plain = checked no_bytes
 
--- its far end takes 1 to 32 bytes
 abbrev pub from_plain : List ℕ → Option (List ℕ)
-from_plain wire = cond (nat_le 1 (length wire) && nat_le (length wire) 32) (Some wire) None
+from_plain = from_checked 0 no_bytes
 
--- the asynchronous line sends the data and then its CRC, the low byte first
+-- the check bytes of the asynchronous line are the CRC, the low byte first
+abbrev pub crc_bytes : List ℕ → List ℕ
+crc_bytes xs = crc_of xs % 256 ∷ crc_of xs / 256 ∷ []
+
+-- it sends the data and then its CRC, and takes the data where the CRC is right
 abbrev pub framed : List ℕ → List ℕ
-framed xs = xs ++ crc_of xs % 256 ∷ crc_of xs / 256 ∷ []
+framed = checked crc_bytes
 
--- all but the last two bytes
-abbrev pub data_of : List ℕ → List ℕ
-data_of wire = take (length wire - 2) wire
-
--- the last two bytes are the CRC of those before
-abbrev pub right_crc : List ℕ → Bool
-right_crc wire = slice_index wire (length wire - 2) + 256 * slice_index wire (length wire - 1) == crc_of (data_of wire)
-
--- its far end takes 3 to 34 bytes with a right CRC
 abbrev pub from_framed : List ℕ → Option (List ℕ)
-from_framed wire = cond (nat_le 3 (length wire) && nat_le (length wire) 34 && right_crc wire) (Some (data_of wire)) None
+from_framed = from_checked 2 crc_bytes

@@ -2,12 +2,13 @@
 #![tactic(auto)]
 
 pub mod asynchronous;
+pub mod framed;
 pub mod line;
 pub mod sending;
 pub mod store;
 pub mod three_wire;
 
 pub use asynchronous::Asynchronous;
-pub use line::Line;
+pub use line::{Line, REPLY_BYTES, WIRE_BYTES};
 pub use sending::{round_trip, send};
 pub use three_wire::ThreeWire;

@@ -2,8 +2,15 @@
 ghost use Rattle.std.specs.Prelude.{◌≡◌, ℕ, ◌<◌, ◌≤◌, List, length, is_ok, if◌then◌else◌, Some, Option as Maybe};
 ghost use Rattle.line.specs.Reply.{Reply, Bytes, Sound, emptied, put_answer, put_after, close_after};
 ghost use Rattle.line.specs.Collecting.{over, collect_answer, check_answer, check_buffer};
+ghost use Rattle.line.specs.declared.line.TheConstants.{WIRE_BYTES as wire_bytes};
 
 use refusal::Refusal;
+
+/// How many data bytes a reply has at most.
+pub const REPLY_BYTES: usize = 32;
+
+/// How many wire bytes a reply has at most, on any line.
+pub const WIRE_BYTES: usize = 80;
 
 /// A line that carries replies. Of a line that was never opened nothing more is known than that its meaning is sound.
 pub trait Line {
@@ -58,5 +65,6 @@ pub trait Line {
 
     ghost wide: { (xs : List ℕ) → length (wire xs) ≡ width (length xs) };
 
-    ghost narrow: { (n : ℕ) → n ≤ 32 → width n ≤ 80 };
+    /// No reply has more than `WIRE_BYTES` wire bytes.
+    ghost narrow: { (n : ℕ) → n ≤ 32 → width n ≤ wire_bytes };
 }

@@ -1,19 +1,15 @@
 //! The store of one reply, which the lines of this crate are made of.
-ghost use Rattle.std.specs.Prelude.{◌≡◌, ℕ, ◌<◌, ◌≤◌, true, length, slice_index};
+ghost use Rattle.line.specs.Reply.{Sound, reply};
 
-/// How many data bytes a reply has at most.
-pub const REPLY_BYTES: usize = 32;
+use crate::line::REPLY_BYTES;
+use arrayvec::ArrayVec;
 
 /// The data bytes of a reply, and whether it waits.
 #[derive(Drop)]
 pub struct Store {
-    bytes: [u8; REPLY_BYTES],
-    count: usize,
+    bytes: ArrayVec<u8, REPLY_BYTES>,
     waiting: bool,
-    ghost whole: { length bytes ≡ 32 },
-    ghost narrow: { ((i : ℕ) → slice_index bytes i < 256) },
-    ghost few: { count ≤ 32 },
-    ghost some: { waiting ≡ true → 0 < count },
+    ghost sound: { Sound (reply bytes.items waiting) },
 }
 
-pub(crate) mod filling;
+mod filling;

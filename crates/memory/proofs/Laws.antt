@@ -1,6 +1,6 @@
 -- The log's laws, from those of the roll-over store.
 use Rattle.std.proofs.Common.{◌≡◌, ℕ, ◌+◌, ◌*◌, ◌%◌, ◌<◌, ◌≤◌, Bool, true, false, ◌||◌, eqb, leb, ◌⊎◌, List, [], ◌∷◌, ◌++◌, length, get_or, replicate, sym, refl, ap, ◌∙◌, inl, inr, mod-eq_of_lt, mul-le-mul_left, mul-zero, arith, lit<, length-take, take_all, get_or-take}
-use native.Mathlib.Nat.{mod_self, min-eq_left, min-eq_right}
+use native.Mathlib.Nat.{mod_self, mul-pos, min-eq_left, min-eq_right}
 use lib.Seq.{take-append-le}
 use Rattle.std.proofs.lemmas.List.{length_push}
 use Rattle.std.proofs.ByRecursion.{All-push, All-take}
@@ -13,12 +13,12 @@ use Rattle.memory.specs.declared.row.Row.TheVariants.{One}
 use Rattle.memory.specs.Rows.{bytes_of, width_of}
 use Rattle.memory.specs.Logs.{stored_row, next_row, full_after, used_of, Width, capacity, Wide, written, offset, LogStands, used_by, Kept, LogReads}
 use Rattle.memory.proofs.Stores.{stands_by, held_by, held_first}
-use Rattle.memory.proofs.Places.{bytes, length_bytes, get_or-bytes, bytes_push, place_byte, place_row, some_places}
+use Rattle.memory.proofs.Places.{bytes, length_bytes, get_or-bytes, bytes_push, place_byte, place_row}
 
 -- Rows of w bytes in a store of `size` bytes, in which `fit` rows fit.
 module _ (w fit size : ℕ) (h : 0 < w) (f : 0 < fit) (whole : w * fit ≡ size) where
   positive : 0 < size
-  positive = rw whole at (some_places w fit h f)
+  positive = rw whole at (mul-pos h f)
 
   place_rows : (rows : List Row) → Wide w rows → length (bytes rows) % size ≡ w * (length rows % fit)
   place_rows rows a = rw (← whole, length_bytes w rows a) (place_row w fit (length rows) h f)

@@ -1,5 +1,5 @@
 -- Rows of one width, laid out byte after byte, and the place of each byte in a store of w × fit bytes.
-use Rattle.std.proofs.Common.{◌≡◌, ℕ, zero, suc, ◌+◌, ◌*◌, ◌%◌, ◌<◌, ◌≤◌, List, [], ◌∷◌, ◌++◌, length, get_or, sym, ap, ◌∙◌, add-zero, mul_comm, mul-le-mul_left, mul-zero, arith, length-append, get_or-append-add}
+use Rattle.std.proofs.Common.{◌≡◌, ℕ, zero, suc, ◌+◌, ◌*◌, ◌%◌, ◌<◌, List, [], ◌∷◌, ◌++◌, length, get_or, sym, ap, ◌∙◌, add-zero, mul_comm, mul-zero, arith, length-append, get_or-append-add}
 use lib.Arith.{mod-mul}
 use lib.ListN.{get_or-append}
 use Rattle.std.specs.List.{flat_map}
@@ -35,6 +35,3 @@ place_byte w fit i j f h =
 
 pub place_row : (w fit n : ℕ) → 0 < w → 0 < fit → (w * n) % (w * fit) ≡ w * (n % fit)
 place_row w fit n h f = ap (λ (k : ℕ). k % (w * fit)) (sym (add-zero (w * n))) ∙ place_byte w fit n 0 f h ∙ add-zero (w * (n % fit))
-
-pub some_places : (w fit : ℕ) → 0 < w → 0 < fit → 0 < w * fit
-some_places w fit h f = let p : w * 1 ≤ w * fit = mul-le-mul_left w (omega arith) in omega arith

@@ -1,4 +1,5 @@
 pub mod Events
 pub mod Rows
 pub mod Logs
+pub mod Serving
 pub mod Figures

@@ -3,18 +3,19 @@ ghost use Rattle.memory.specs.Events.{blank_entry, kind_number};
 ghost use Rattle.std.specs.Prelude.{◌≡◌};
 
 /// The kinds of events that the journal notes.
-#[derive(Clone, Copy)]
+#[derive(Clone, Copy, Debug, Default, PartialEq, Eq)]
 pub enum EventKind {
     /// No event: the entry has not been used yet.
-    Unused,
+    #[default]
+    Unused = 0,
     /// A mission was started, by a write or by a press of the button.
-    Start,
+    Start = 1,
     /// A mission was stopped by a write.
-    Stop,
+    Stop = 2,
     /// A mission was stopped by a write of Status 1.
-    StatusStop,
+    StatusStop = 3,
     /// The memories were cleared.
-    Clear,
+    Clear = 4,
 }
 
 impl EventKind {
@@ -22,18 +23,12 @@ impl EventKind {
     pub fn number(self) -> u8
         ensures { result ≡ kind_number self }
     {
-        match self {
-            EventKind::Unused => 0,
-            EventKind::Start => 1,
-            EventKind::Stop => 2,
-            EventKind::StatusStop => 3,
-            EventKind::Clear => 4,
-        }
+        self as u8
     }
 }
 
 /// One entry of the journal: what happened, the address that was written or 0, and the Total at that moment.
-#[derive(Clone, Copy)]
+#[derive(Clone, Copy, Debug, Default, PartialEq, Eq)]
 pub struct JournalEntry {
     pub kind: EventKind,
     pub address: u8,
@@ -45,10 +40,6 @@ impl JournalEntry {
     pub fn blank() -> Self
         ensures { result ≡ blank_entry }
     {
-        JournalEntry {
-            kind: EventKind::Unused,
-            address: 0,
-            total: 0,
-        }
+        JournalEntry::default()
     }
 }

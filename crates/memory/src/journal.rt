@@ -8,10 +8,10 @@ ghost use Rattle.std.specs.Prelude.{◌≡◌, List, [], ◌∷◌, ◌++◌, le
 use crate::event::JournalEntry;
 use ring::Ring;
 
-/// The place of the next event's entry. The entries themselves are in memory that is lent at each call.
+/// A roll-over store of entries, which are themselves in memory that is lent at each call.
 #[derive(Clone, Copy)]
 pub struct Journal {
-    next: usize,
+    ring: Ring,
 }
 
 impl Journal {
@@ -19,26 +19,25 @@ impl Journal {
     pub const ENTRIES: usize = 16;
 
     /// A journal with no event: over a memory of 16 blank entries it stands for the empty history.
+    #[tactic(auto, using(crate::proofs::Events::no_event))]
     pub fn new() -> Self
-        ensures place { result.next ≡ 0 }
+        ensures place { result.ring.next ≡ 0 }
         ensures entries { Self.ENTRIES ≡ 16 }
         ensures law { (memory : List JournalEntry) → length memory ≡ 16 → memory ≡ replicate (length memory) blank_entry
-            → JournalStands [] memory result.next }
+            → JournalStands [] memory result.ring.next }
     {
-        Journal { next: 0 }
+        Journal { ring: Ring::at(0) }
     }
 
     /// Notes one more event, in place of the oldest once all entries are used.
     pub fn note(&mut self, memory: &mut [JournalEntry], entry: JournalEntry)
-        ensures memory { memory.new ≡ stored memory.old self.old.next entry }
-        ensures place { self.new.next ≡ advanced (length memory.old) self.old.next }
-        ensures law { (events : List JournalEntry) → JournalStands events memory.old self.old.next
-            → JournalStands (events ++ entry ∷ []) memory.new self.new.next }
-        ensures reads { (events : List JournalEntry) → JournalStands events memory.old self.old.next
-            → Stands 16 blank_entry (events ++ entry ∷ []) memory.new self.new.next }
+        ensures memory { memory.new ≡ stored memory.old self.old.ring.next entry }
+        ensures place { self.new.ring.next ≡ advanced (length memory.old) self.old.ring.next }
+        ensures law { (events : List JournalEntry) → JournalStands events memory.old self.old.ring.next
+            → JournalStands (events ++ entry ∷ []) memory.new self.new.ring.next }
+        ensures reads { (events : List JournalEntry) → JournalStands events memory.old self.old.ring.next
+            → Stands 16 blank_entry (events ++ entry ∷ []) memory.new self.new.ring.next }
     {
-        let mut ring = Ring::over(memory, self.next);
-        ring.put(entry);
-        self.next = ring.next();
+        self.ring.put(memory, entry);
     }
 }

@@ -5,6 +5,7 @@ mod event;
 mod journal;
 mod log;
 mod row;
+mod serving;
 
 ghost use Rattle.memory.specs.Figures.{Figures};
 ghost use Rattle.std.specs.Prelude.{◌≡◌};
@@ -13,8 +14,10 @@ pub use event::{EventKind, JournalEntry};
 pub use journal::Journal;
 pub use log::Log;
 pub use row::Row;
+pub use serving::can_serve;
 
 /// The worked figures of the journal and the log.
+#[tactic(auto, unfolding(ring::specs::History::ring_of))]
 pub fn figures_stand() -> u8
     ensures answer { result ≡ 0 }
     ensures figures { Figures }

@@ -8,11 +8,11 @@ ghost use Rattle.ring.specs.Steps.{advanced_all, stored_all};
 use crate::row::Row;
 use ring::Ring;
 
-/// The place of the next row's first byte, and whether every place has been written. The rows themselves are in memory
+/// A roll-over store of the rows' bytes, and whether every place has been written. The rows themselves are in memory
 /// that is lent at each call.
 #[derive(Clone, Copy)]
 pub struct Log {
-    next: usize,
+    ring: Ring,
     /// Without this mark a full log could not be told from an empty one: the place is 0 in both.
     full: bool,
 }
@@ -23,56 +23,58 @@ impl Log {
 
     /// A log with no row, as after a clear: over a memory of 2,048 zeros it stands for no row at all.
     pub fn new() -> Self
-        ensures place { result.next ≡ 0 }
+        ensures place { result.ring.next ≡ 0 }
         ensures full { result.full ≡ false }
         ensures bytes { Self.BYTES ≡ 2048 }
         ensures law { (roll : Bool) (w : ℕ) (memory : List ℕ) → Width w → length memory ≡ 2048 → memory ≡ replicate (length memory) 0
-            → LogStands roll w [] memory result.next result.full }
+            → LogStands roll w [] memory result.ring.next result.full }
     {
         Log {
-            next: 0,
+            ring: Ring::at(0),
             full: false,
         }
     }
 
     /// Writes one more row. A full log drops the row with roll-over off, and with it on loses its oldest row.
     pub fn write(&mut self, memory: &mut [u8], row: Row, roll_over: bool)
-        ensures memory { memory.new ≡ stored_row roll_over self.old.full memory.old self.old.next row }
-        ensures place { self.new.next ≡ next_row roll_over self.old.full (length memory.old) self.old.next row }
-        ensures full { self.new.full ≡ full_after self.old.full self.new.next }
+        ensures memory { memory.new ≡ stored_row roll_over self.old.full memory.old self.old.ring.next row }
+        ensures place { self.new.ring.next ≡ next_row roll_over self.old.full (length memory.old) self.old.ring.next row }
+        ensures full { self.new.full ≡ full_after self.old.full self.new.ring.next }
         ensures law { (w : ℕ) (rows : List Row) → width_of row ≡ w
-            → LogStands roll_over w rows memory.old self.old.next self.old.full
-            → LogStands roll_over w (rows ++ row ∷ []) memory.new self.new.next self.new.full }
+            → LogStands roll_over w rows memory.old self.old.ring.next self.old.full
+            → LogStands roll_over w (rows ++ row ∷ []) memory.new self.new.ring.next self.new.full }
         ensures reads { (w : ℕ) (rows : List Row) → width_of row ≡ w
-            → LogStands roll_over w rows memory.old self.old.next self.old.full
+            → LogStands roll_over w rows memory.old self.old.ring.next self.old.full
             → LogReads roll_over w (rows ++ row ∷ []) memory.new }
     {
         if roll_over || !self.full {
-            self.next = put_row(memory, self.next, row);
-            self.full = self.full || self.next == 0;
+            put_row(&mut self.ring, memory, row);
+            self.full = self.full || self.ring.next() == 0;
         }
     }
 
     /// How many bytes of the log hold rows.
     pub fn used(&self) -> usize
-        ensures value { result ≡ used_of self.now.next self.now.full }
+        ensures value { result ≡ used_of self.now.ring.next self.now.full }
         ensures law { (roll : Bool) (w : ℕ) (rows : List Row) (memory : List ℕ)
-            → LogStands roll w rows memory self.now.next self.now.full → result ≡ used_by w (length rows) }
+            → LogStands roll w rows memory self.now.ring.next self.now.full → result ≡ used_by w (length rows) }
     {
-        if self.full { Self::BYTES } else { self.next }
+        if self.full {
+            Self::BYTES
+        } else {
+            self.ring.next()
+        }
     }
 }
 
-/// Puts the bytes of a row into the memory, from the place `next` on, and gives the place after them.
-fn put_row(memory: &mut [u8], next: usize, row: Row) -> usize
-    ensures memory { memory.new ≡ stored_all memory.old next (bytes_of row) }
-    ensures place { result ≡ advanced_all (length memory.old) next (bytes_of row) }
+/// Puts the bytes of a row into the memory, one after the other.
+fn put_row(ring: &mut Ring, memory: &mut [u8], row: Row)
+    ensures memory { memory.new ≡ stored_all memory.old ring.old.next (bytes_of row) }
+    ensures place { ring.new.next ≡ advanced_all (length memory.old) ring.old.next (bytes_of row) }
 {
-    let mut ring = Ring::over(memory, next);
     match row {
-        Row::One(a) => ring.put_all(&[a]),
-        Row::Two(a, b) => ring.put_all(&[a, b]),
-        Row::Four(a, b, c, d) => ring.put_all(&[a, b, c, d]),
+        Row::One(a) => ring.put_all(memory, &[a]),
+        Row::Two(a, b) => ring.put_all(memory, &[a, b]),
+        Row::Four(a, b, c, d) => ring.put_all(memory, &[a, b, c, d]),
     }
-    ring.next()
 }

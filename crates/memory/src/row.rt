@@ -3,7 +3,7 @@ ghost use Rattle.memory.specs.Rows.{row_of, width_of};
 ghost use Rattle.std.specs.Prelude.{◌≡◌};
 
 /// The codes of one sample set, in a row of one, two or four bytes.
-#[derive(Clone, Copy)]
+#[derive(Clone, Copy, Debug, PartialEq, Eq)]
 pub enum Row {
     /// The code of one channel.
     One(u8),

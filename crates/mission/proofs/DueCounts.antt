@@ -5,9 +5,10 @@ use Rattle.std.proofs.lemmas.Nat.{div-mul-add, div-add-mod'}
 use Rattle.std.proofs.lemmas.List.FromFn.{sum_by-map-range_with_len_more}
 use Rattle.std.proofs.lemmas.List.Sums.{sum-map}
 use Rattle.std.proofs.lemmas.Bool.{cases_eq, cases_lt, eq-eqb, ne_eqb}
+use Rattle.std.proofs.lemmas.Bool.Decides.{nat_tests}
 use Rattle.mission.specs.Schedule.{due}
 use Rattle.mission.specs.Sets.{sets_due, SetCount}
-use Rattle.mission.proofs.Countdowns.{due_waiting, due_past}
+use Rattle.mission.proofs.Countdowns.{due_past}
 
 -- One more rollover counts where it is due.
 sets_due_more : (d r k : ℕ) → sets_due d r (k + 1) ≡ sets_due d r k + cond (due d r (k + 1)) 1 0
@@ -34,9 +35,7 @@ quotient_more r m pos (inr e) =
 
 -- So does the number of sample sets by its formula.
 formula_more : (d r k : ℕ) → 0 < r → (k < d) ⊎ (d ≤ k) → (k + 1 - d + r - 1) / r ≡ (k - d + r - 1) / r + cond (due d r (k + 1)) 1 0
-formula_more d r k pos (inl h) =
-    let same : k + 1 - d + r - 1 ≡ k - d + r - 1 = omega arith in
-    rw (same, due_waiting d r (k + 1) (omega arith)) (sym (add-zero ((k - d + r - 1) / r)))
+formula_more d r k pos (inl h) = grind (arith, nat_tests)
 formula_more d r k pos (inr h) =
     let up : k + 1 - d + r - 1 ≡ k - d + r = omega arith in
     rw (up, due_past d r (k + 1) (k - d) (omega arith)) (quotient_more r (k - d) pos (cases_eq ((k - d) % r) 0))

@@ -1,10 +1,7 @@
 -- Which channels are on, and how wide a row of the log is.
-use Rattle.std.specs.Prelude.{ℕ, ◌+◌, ◌/◌, ◌%◌, ◌^◌, Bool, cond, ◌||◌, [], ◌∷◌, ◌==◌, slice_index}
-use Rattle.mission.specs.declared.channels.Channels.{Channels}
-
--- Whether bit i of a byte is 1, bit 0 the lowest.
-abbrev pub bit : ℕ → ℕ → Bool
-bit i byte = byte / 2 ^ i % 2 == 1
+use Rattle.std.specs.Prelude.{ℕ, ◌+◌, Bool, cond, ◌||◌, [], ◌∷◌, slice_index}
+use Rattle.bits.specs.Bits.{bit}
+use Rattle.mission.specs.PerChannel.{Channels}
 
 -- The channels that a control byte switches on: temperature by bit 6, channels one, two and three by
 -- bits 5, 4 and 3.

@@ -1,6 +1,9 @@
 //! The channels that a mission samples.
-ghost use Rattle.std.specs.Prelude.{◌≡◌, ◌<◌};
-ghost use Rattle.mission.specs.Channels.{bit, channels_of, any_on, number_on, row_width};
+ghost use Rattle.std.specs.Prelude.{◌≡◌};
+ghost use Rattle.mission.specs.Channels.{any_on, channels_of, number_on, row_width};
+
+use crate::per_channel::PerChannel;
+use bits::is_set;
 
 // The bits of the control byte that switch the channels on.
 const TEMPERATURE_BIT: u32 = 6;
@@ -12,13 +15,7 @@ const TWO_BIT: u32 = 4;
 const THREE_BIT: u32 = 3;
 
 /// Which channels are on.
-#[derive(Clone, Copy)]
-pub struct Channels {
-    pub temperature: bool,
-    pub one: bool,
-    pub two: bool,
-    pub three: bool,
-}
+pub type Channels = PerChannel<bool>;
 
 impl Channels {
     /// The channels that a control byte switches on: temperature by bit 6, channels one, two and three
@@ -59,12 +56,4 @@ impl Channels {
             _ => 4,
         }
     }
-}
-
-/// Whether a bit of a byte is 1; bit 0 is the lowest.
-fn is_set(byte: u8, i: u32) -> bool
-    requires { i < 8 }
-    ensures { result ≡ bit i byte }
-{
-    (byte >> i) & 1 == 1
 }

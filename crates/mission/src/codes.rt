@@ -1,10 +1,5 @@
 //! What the sensors read.
+use crate::per_channel::PerChannel;
 
 /// The codes of one second: temperature and the voltage channels, whether they are on or not.
-#[derive(Clone, Copy)]
-pub struct Codes {
-    pub temperature: u8,
-    pub one: u8,
-    pub two: u8,
-    pub three: u8,
-}
+pub type Codes = PerChannel<u8>;

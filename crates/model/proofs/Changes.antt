@@ -6,7 +6,7 @@ use Rattle.memory.specs.declared.event.EventKind.{EventKind}
 use Rattle.memory.specs.declared.event.EventKind.TheVariants.{Start, Clear}
 use Rattle.memory.specs.declared.event.JournalEntry.{JournalEntry}
 use Rattle.mission.specs.Channels.{any_on}
-use Rattle.mission.specs.declared.codes.Codes.{Codes}
+use Rattle.mission.specs.PerChannel.{Codes}
 use Rattle.record.specs.Contents.{Contents as Record, cleared as cleared_record}
 use Rattle.record.specs.Histories.{record_of}
 use Rattle.record.proofs.Records.{record_none, record_more}

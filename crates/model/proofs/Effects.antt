@@ -1,5 +1,5 @@
 -- What a call changes of the sets, of how many were made, and of the line.
-use Rattle.std.proofs.Common.{◌≡◌, ℕ, ◌+◌, ◌<◌, Bool, true, false, cond, ◌&&◌, eqb, ltb, List, [], ◌∷◌, ◌++◌, is_ok, refl, ap, subst}
+use Rattle.std.proofs.Common.{◌≡◌, ℕ, ◌+◌, ◌<◌, true, false, cond, ◌&&◌, eqb, ltb, List, [], ◌∷◌, ◌++◌, is_ok, refl, ap, subst}
 use Rattle.std.proofs.lemmas.Bool.{and_parts, cond_both, eqb-true, ltb-true}
 use Rattle.clock.specs.Ticking.{rolls_over}
 use Rattle.command.specs.Commands.{heard_of}
@@ -8,21 +8,24 @@ use Rattle.command.specs.declared.command.Command.TheVariants.{Write, Read, Read
 use Rattle.command.specs.declared.command.Heard.{Heard}
 use Rattle.command.specs.declared.command.Heard.TheVariants.{Part, Whole, Unknown}
 use Rattle.line.specs.Reply.{reply, emptied}
-use Rattle.model.specs.Runs.{serve}
+use Rattle.memory.specs.Serving.{serves}
 use Rattle.mission.specs.Schedule.{due}
-use Rattle.mission.specs.declared.codes.Codes.{Codes}
+use Rattle.mission.specs.PerChannel.{Codes}
 use Rattle.record.specs.Sets.{SampleSet}
 use Rattle.registers.specs.Steps.{tick_after, count_down_after}
 use Rattle.registers.specs.Writing.{write_answer, write_after, stops as stopping}
 use Rattle.recorder.specs.Control.{starts as starting, press_starts}
 use Rattle.recorder.specs.Map.{page_from}
+use Rattle.model.specs.declared.calls.Action.{Action}
+use Rattle.model.specs.declared.calls.Action.TheVariants.{Byte, Second, Press}
 use Rattle.model.specs.declared.calls.Call.{Call}
-use Rattle.model.specs.declared.calls.Call.TheVariants.{Byte, Gap, Second, Press, Collect}
+use Rattle.model.specs.declared.calls.Call.TheVariants.{Lent, Gap, Collect}
 use Rattle.model.specs.Model.{Model, with_registers, with_received, with_line, rolls}
 use Rattle.model.specs.Stand.{stand}
 use Rattle.model.specs.Rules.{started, stopped, cleared, accepted, written, replies, commanded, enable_used, heard}
 use Rattle.model.specs.Rules.{served, sampled, rolled, passed, pressed}
 use Rattle.model.specs.Runs.{after, collect_result, heard_by}
+use Rattle.model.proofs.Ways.{either}
 
 -- Sets, their number and the line are as they were.
 pub record Kept (m x : Model) : Type 0 where
@@ -34,7 +37,7 @@ pub record Kept (m x : Model) : Type 0 where
 pub record Sent (m : Model) (c : Call) (x : Model) : Type 0 where
   pub address : ℕ
   pub byte : ℕ
-  pub arrives : c ≡ Byte 2048 16 byte
+  pub arrives : c ≡ Lent 2048 16 (Byte byte)
   pub free : m.line.waits ≡ false
   pub whole : heard_of (m.received ++ byte ∷ []) ≡ Whole (Read address)
   pub inside : address < 0x1800
@@ -44,7 +47,7 @@ pub record Sent (m : Model) (c : Call) (x : Model) : Type 0 where
 pub record Brought (c : Call) (set : SampleSet) : Type 0 where
   pub log : ℕ
   pub journal : ℕ
-  pub arrives : c ≡ Second log journal set.codes
+  pub arrives : c ≡ Lent log journal (Second set.codes)
   pub accepted : ltb 250 set.codes.temperature ≡ false
 
 -- What a call did to the model m, which is x after it.
@@ -57,9 +60,6 @@ pub data Did (m : Model) (c : Call) (x : Model) : Type 0 where
 
 all_kept : (m : Model) → Kept m m
 all_kept m = record { sets = refl; made = refl; line = refl }
-
-pub either : (P : Model → Type 0) (t : Bool) (x y : Model) → P x → P y → P (cond t x y)
-either P t x y p q = cond_both t x y P (λ _. p) (λ _. q)
 
 -- ---- writes
 
@@ -84,7 +84,7 @@ written_kept m address value =
 
 module _ (m : Model) (byte : ℕ) where
   abbrev call : Call
-  call = Byte 2048 16 byte
+  call = Lent 2048 16 (Byte byte)
 
   -- The model with the command gone and the clear enable used up.
   abbrev ready : Model
@@ -130,22 +130,10 @@ module _ (m : Model) (byte : ℕ) where
       (λ _. kept (all_kept m)) (λ free. heard_did (heard_of (m.received ++ byte ∷ [])) free refl)
 
 -- Memories that can serve have 2,048 bytes and 16 entries.
-own_lengths : (log journal : ℕ) → serve log journal ≡ true → (log ≡ 2048) × (journal ≡ 16)
-own_lengths log journal e =
+pub own_lengths : (log journal : ℕ) (action : Action) → serves log journal ≡ true → Lent 2048 16 action ≡ Lent log journal action
+own_lengths log journal action e =
     let both = and_parts (eqb log 2048) (eqb journal 16) e in
-    (eqb-true log 2048 both.0, eqb-true journal 16 both.1)
-
-pub own_byte : (log journal byte : ℕ) → serve log journal ≡ true → Byte 2048 16 byte ≡ Byte log journal byte
-own_byte log journal byte e =
-    let l : log ≡ 2048 = (own_lengths log journal e).0 in
-    let j : journal ≡ 16 = (own_lengths log journal e).1 in
-    cc
-
-pub own_second : (log journal : ℕ) (codes : Codes) → serve log journal ≡ true → Second 2048 16 codes ≡ Second log journal codes
-own_second log journal codes e =
-    let l : log ≡ 2048 = (own_lengths log journal e).0 in
-    let j : journal ≡ 16 = (own_lengths log journal e).1 in
-    cc
+    rw (eqb-true log 2048 both.0, eqb-true journal 16 both.1)
 
 -- ---- seconds
 
@@ -154,7 +142,7 @@ served_kept m x codes k = either (Kept m) x.sensing _ _ (record { sets = k.sets;
 
 module _ (m : Model) (log journal : ℕ) (codes : Codes) (cool : ltb 250 codes.temperature ≡ false) where
   abbrev second : Call
-  second = Second log journal codes
+  second = Lent log journal (Second codes)
 
   rolled_did : (x : Model) → Kept m x → Did m second (rolled x codes)
   rolled_did x k =
@@ -175,19 +163,19 @@ module _ (m : Model) (log journal : ℕ) (codes : Codes) (cool : ltb 250 codes.t
 -- ---- every call
 
 pub did : (wire : List ℕ → List ℕ) (m : Model) (c : Call) → Did m c (after wire m c)
-did wire m (Byte log journal byte) =
-    cond_both (serve log journal) (cond m.line.waits m (heard_by m byte)) m (Did m (Byte log journal byte))
-    (λ e. subst (λ c. Did m c (cond m.line.waits m (heard_by m byte))) (own_byte log journal byte e) (byte_did m byte))
+did wire m (Lent log journal (Byte byte)) =
+    cond_both (serves log journal) (cond m.line.waits m (heard_by m byte)) m (Did m (Lent log journal (Byte byte)))
+    (λ e. subst (λ c. Did m c (cond m.line.waits m (heard_by m byte))) (own_lengths log journal (Byte byte) e) (byte_did m byte))
     (λ _. kept (all_kept m))
 did wire m Gap = kept (record { sets = refl; made = refl; line = refl })
-did wire m (Second log journal codes) =
-    let c = Second log journal codes in
+did wire m (Lent log journal (Second codes)) =
+    let c = Lent log journal (Second codes) in
     let heeded = cond_both (ltb 250 codes.temperature) m (passed m codes) (Did m c) (λ _. kept (all_kept m)) (λ cool. passed_did m log journal codes cool) in
-    either (Did m c) (serve log journal) (cond (ltb 250 codes.temperature) m (passed m codes)) m heeded (kept (all_kept m))
-did wire m (Press log journal) =
-    let c = Press log journal in
+    either (Did m c) (serves log journal) (cond (ltb 250 codes.temperature) m (passed m codes)) m heeded (kept (all_kept m))
+did wire m (Lent log journal Press) =
+    let c = Lent log journal Press in
     let k : Kept m (pressed m) =
     either (Kept m) (press_starts m.registers) (started m 0) m (started_kept m m 0 (all_kept m)) (all_kept m) in
-    either (Did m c) (serve log journal) (pressed m) m (kept k) (kept (all_kept m))
+    either (Did m c) (serves log journal) (pressed m) m (kept k) (kept (all_kept m))
 did wire m (Collect room) =
     either (Did m (Collect room)) (is_ok (collect_result wire m room)) (with_line m emptied) m (gave refl refl refl) (kept (all_kept m))

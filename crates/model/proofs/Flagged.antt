@@ -1,32 +1,33 @@
 -- What a call does to a limit flag: it raises the flag, clears it, or leaves it.
-use Rattle.std.proofs.Common.{◌≡◌, ℕ, ◌+◌, Bool, true, false, cond, ◌&&◌, ◌||◌, eqb, ltb, List, [], ◌∷◌, ◌++◌, is_ok, sym, refl, ap, ◌∙◌, subst, inl, inr, arith}
+use Rattle.std.proofs.Common.{◌≡◌, ℕ, ◌+◌, Bool, true, false, cond, ◌&&◌, ◌||◌, ltb, List, [], ◌∷◌, ◌++◌, is_ok, sym, refl, ap, ◌∙◌, subst, inl, inr, arith}
 use Rattle.std.proofs.lemmas.Bool.{false≢true, and_from, and_parts, both_ways, cases_Bool, cases_eq, cond_both, cond-false, cond-true, eq-eqb, eqb-true, not_from_false, not-true, or_right}
+use Rattle.std.proofs.Math.Bool.{or-false}
 use Rattle.clock.specs.Ticking.{rolls_over}
 use Rattle.command.specs.Commands.{heard_of}
 use Rattle.command.specs.declared.command.Command.TheVariants.{Write, Read, ReadSensors, Clear}
 use Rattle.command.specs.declared.command.Heard.{Heard}
 use Rattle.command.specs.declared.command.Heard.TheVariants.{Part, Whole, Unknown}
 use Rattle.line.specs.Reply.{emptied}
-use Rattle.model.specs.Runs.{serve}
-use Rattle.mission.specs.Channels.{bit}
+use Rattle.memory.specs.Serving.{serves}
+use Rattle.bits.specs.Bits.{bit}
 use Rattle.mission.specs.Schedule.{due}
-use Rattle.mission.specs.declared.codes.Codes.{Codes}
+use Rattle.mission.specs.PerChannel.{Codes, Flags as LimitFlags}
 use Rattle.registers.specs.Writing.{write_answer, write_after, stops as stopping}
 use Rattle.registers.specs.Contents.{Contents as Registers}
 use Rattle.registers.specs.Flags.{status_1_kept, status_2_kept}
 use Rattle.registers.specs.Steps.{count_down_after}
-use Rattle.registers.specs.declared.flags.Flags.{Flags as LimitFlags}
 use Rattle.recorder.specs.Control.{starts as starting, press_starts}
+use Rattle.model.specs.declared.calls.Action.TheVariants.{Byte, Second, Press}
 use Rattle.model.specs.declared.calls.Call.{Call}
-use Rattle.model.specs.declared.calls.Call.TheVariants.{Byte, Gap, Second, Press, Collect}
+use Rattle.model.specs.declared.calls.Call.TheVariants.{Lent, Gap, Collect}
 use Rattle.model.specs.Model.{Model, Plan, with_registers, with_received, with_line, rolls}
 use Rattle.model.specs.Rules.{started, stopped, cleared, written, replies, enable_used, heard}
 use Rattle.model.specs.Rules.{sampled, rolled, passed, pressed}
 use Rattle.model.specs.Runs.{after, collect_result, heard_by}
 use Rattle.model.specs.Flagging.{Channel, Side, flag_of, status_of, bit_of, Raises, Clears}
-use Rattle.model.proofs.Effects.{either, own_byte, own_second}
+use Rattle.model.proofs.Effects.{own_lengths}
 use Rattle.model.proofs.Flags.{strikes, set_raises, wipes, by_wipe, flag_after, status_1_clears, status_2_clears, others_clear_none}
-use Rattle.model.proofs.Ways.{same_chosen}
+use Rattle.model.proofs.Ways.{either, same_chosen}
 use Rattle.model.proofs.Writes.{write_keeps_flags}
 
 -- The flags of a model, and how many sets were taken.
@@ -72,22 +73,18 @@ is_write Part = false
 is_write Unknown = false
 
 abbrev is_byte : Call → Bool
-is_byte (Byte log journal byte) = true
+is_byte (Lent log journal (Byte byte)) = true
 is_byte Gap = false
-is_byte (Second log journal codes) = false
-is_byte (Press log journal) = false
+is_byte (Lent log journal (Second codes)) = false
+is_byte (Lent log journal Press) = false
 is_byte (Collect room) = false
 
 -- A byte that is lent memories of 2,048 bytes and 16 entries is lent memories that can serve.
-own_lengths : (log journal byte other : ℕ) → Byte log journal byte ≡ Byte 2048 16 other → serve log journal ≡ true
-own_lengths log journal byte other e =
+can_serve : (log journal byte other : ℕ) → Lent log journal (Byte byte) ≡ Lent 2048 16 (Byte other) → serves log journal ≡ true
+can_serve log journal byte other e =
     let l : log ≡ 2048 = cc in
     let j : journal ≡ 16 = cc in
-    and_from (eqb log 2048) (eqb journal 16) (eq-eqb log 2048 l) (eq-eqb journal 16 j)
-
-or_false : (x y : Bool) → y ≡ false → (x || y) ≡ x
-or_false true y e = refl
-or_false false y e = e
+    rw (l, j)
 
 -- ---- one flag
 
@@ -119,7 +116,7 @@ module _ (channel : Channel) (side : Side) where
 
   module _ (m : Model) (byte : ℕ) where
     abbrev call : Call
-    call = Byte 2048 16 byte
+    call = Lent 2048 16 (Byte byte)
 
     -- The model with the command gone and the clear enable used up.
     abbrev ready : Model
@@ -205,7 +202,7 @@ module _ (channel : Channel) (side : Side) where
 
   module _ (m : Model) (codes : Codes) where
     abbrev tick : Call
-    tick = Second 2048 16 codes
+    tick = Lent 2048 16 (Second codes)
 
     -- A second that takes no set.
     no_set : (x : Model) → tells x ≡ tells m → Flagged m tick x
@@ -228,7 +225,7 @@ module _ (channel : Channel) (side : Side) where
               let same = r.arrives in
               let v : codes ≡ r.codes = cc in
               both_ways b off (ap (strikes channel side m.plan.rules) v ∙ and_from _ _ r.on r.past))
-              (never_cleared m tick refl) (gives ∙ or_false (flag m) b off)
+              (never_cleared m tick refl) (rw (off, or-false) at gives)
         ]
 
     rolled_flagged : (rolls_now : Bool) (x : Model) → tells x ≡ tells m → x.plan ≡ m.plan
@@ -249,23 +246,23 @@ module _ (channel : Channel) (side : Side) where
   -- ---- every call
 
   pub flagged : (wire : List ℕ → List ℕ) (m : Model) (c : Call) → Flagged m c (after wire m c)
-  flagged wire m (Byte log journal byte) =
-      let c = Byte log journal byte in
+  flagged wire m (Lent log journal (Byte byte)) =
+      let c = Lent log journal (Byte byte) in
       let x = cond m.line.waits m (heard_by m byte) in
-      cond_both (serve log journal) x m (Flagged m c)
-      (λ own. subst (λ k. Flagged m k x) (own_byte log journal byte own) (byte_flagged m byte))
-      (λ other. leaves m c m (λ r. both_ways (serve log journal) other (own_lengths log journal byte r.byte r.arrives)) refl)
+      cond_both (serves log journal) x m (Flagged m c)
+      (λ own. subst (λ k. Flagged m k x) (own_lengths log journal (Byte byte) own) (byte_flagged m byte))
+      (λ other. leaves m c m (λ r. both_ways (serves log journal) other (can_serve log journal byte r.byte r.arrives)) refl)
   flagged wire m Gap = leaves m Gap _ (never_cleared m Gap refl) refl
-  flagged wire m (Second log journal codes) =
-      let c = Second log journal codes in
+  flagged wire m (Lent log journal (Second codes)) =
+      let c = Lent log journal (Second codes) in
       let x = cond (ltb 250 codes.temperature) m (passed m codes) in
-      cond_both (serve log journal) x m (Flagged m c)
-      (λ own. subst (λ k. Flagged m k x) (own_second log journal codes own) (second_flagged m codes))
+      cond_both (serves log journal) x m (Flagged m c)
+      (λ own. subst (λ k. Flagged m k x) (own_lengths log journal (Second codes) own) (second_flagged m codes))
       (λ _. leaves m c m (never_cleared m c refl) refl)
-  flagged wire m (Press log journal) =
-      let c = Press log journal in
+  flagged wire m (Lent log journal Press) =
+      let c = Lent log journal Press in
       let same : tells (pressed m) ≡ tells m = same_chosen tells (press_starts m.registers) (started m 0) m _ refl refl in
-      leaves m c _ (never_cleared m c refl) (same_chosen tells (serve log journal) (pressed m) m _ same refl)
+      leaves m c _ (never_cleared m c refl) (same_chosen tells (serves log journal) (pressed m) m _ same refl)
   flagged wire m (Collect room) =
       let c = Collect room in
       leaves m c _ (never_cleared m c refl) (same_chosen tells (is_ok (collect_result wire m room)) (with_line m emptied) m _ refl refl)

@@ -1,12 +1,11 @@
 -- What a set and a write make of one limit flag.
 use Rattle.std.proofs.Common.{◌≡◌, ℕ, Bool, true, false, cond, not, ◌&&◌, ◌||◌, eqb, sym, refl}
 use Rattle.std.proofs.lemmas.Bool.{cond-false, ne_eqb}
-use Rattle.mission.specs.Channels.{bit}
-use Rattle.mission.specs.declared.codes.Codes.{Codes}
+use Rattle.bits.specs.Bits.{bit}
+use Rattle.mission.specs.PerChannel.{Codes, Flags as LimitFlags}
 use Rattle.record.specs.Sets.{Rules}
 use Rattle.registers.specs.Flags.{raised, status_1_kept, status_2_kept}
 use Rattle.registers.specs.Contents.{no_flags}
-use Rattle.registers.specs.declared.flags.Flags.{Flags as LimitFlags}
 use Rattle.model.specs.Flagging.{Channel, temperature, one, two, three, Side, low, high, flag_of, status_of, bit_of, on_of, limits_of, code_of, is_past}
 
 -- A recorder as it is made has no flag set.

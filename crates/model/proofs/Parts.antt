@@ -1,8 +1,8 @@
 -- The parts of what stands for a model, each with one more of what it derives from.
-use Rattle.std.proofs.Common.{◌≡◌, ℕ, ◌+◌, ◌%◌, ◌<◌, ◌≤◌, true, List, [], ◌∷◌, ◌++◌, length, replicate, refl, arith, lit<}
+use Rattle.std.proofs.Common.{◌≡◌, ℕ, ◌+◌, ◌%◌, ◌<◌, ◌≤◌, true, cond, List, [], ◌∷◌, ◌++◌, length, replicate, refl, arith, lit<}
 use native.Mathlib.Nat.{sub-zero}
 use Rattle.std.proofs.lemmas.List.FromFn.{length-map-range_with_len}
-use Rattle.std.proofs.lemmas.Bool.{le-ltb, lt-ltb, le-leb, eq-eqb, and_from}
+use Rattle.std.proofs.lemmas.Bool.{cond-true, le-ltb, lt-ltb, le-leb, eq-eqb, and_from}
 use Rattle.std.proofs.lemmas.Bool.Decides.{nat_tests}
 use Rattle.counter.specs.Counting.{counted}
 use Rattle.line.specs.Reply.{reply}
@@ -58,6 +58,10 @@ log_length p sets = (ring_of_stands 2048 0 (lit< tt) _).size
 pub memories_whole : (m : Model) → whole_memories (contents_of m) ≡ true
 memories_whole m =
     and_from _ _ (eq-eqb _ 2048 (log_length m.plan.rules m.sets)) (eq-eqb _ 16 (journal_length m.events))
+
+-- What comes of a call that is lent memories that can serve.
+pub served : {A : Type 0} (m : Model) (x y : A) → cond (whole_memories (contents_of m)) x y ≡ x
+served m x y = cond-true (whole_memories (contents_of m)) x y (memories_whole m)
 
 -- ---- the schedule
 

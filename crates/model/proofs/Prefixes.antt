@@ -1,7 +1,7 @@
 -- Runs of a recorder that are stepped exactly, call by call.
-use Rattle.std.proofs.Common.{◌≡◌, ℕ, ◌+◌, ◌<◌, ◌≤◌, List, [], ◌∷◌, ◌++◌, length, get_or, take, set, sym, refl, ap, ◌∙◌, subst, inl, inr, arith}
+use Rattle.std.proofs.Common.{◌≡◌, ℕ, ◌+◌, ◌<◌, List, [], ◌∷◌, ◌++◌, length, get_or, take, set, sym, refl, ap, ◌∙◌, subst, inl, inr, arith}
 use Rattle.std.proofs.lemmas.Bool.{cases_lt}
-use Rattle.std.proofs.lemmas.List.{take_all, take_more, take_more_set}
+use Rattle.std.proofs.lemmas.List.{take_more, take_more_set}
 use Rattle.line.specs.Reply.{Bytes}
 use Rattle.recorder.specs.State.{State}
 use Rattle.model.specs.declared.calls.Call.{Call}
@@ -22,9 +22,6 @@ module _ (wire : List ℕ → List ℕ) where
     pub noted : take i os ≡ outcomes wire s (take i cs)
     pub left : reached ≡ run_after wire s (take i cs)
     pub bytes : (n : ℕ) → n < i → Bytes (run_after wire s (take n cs)).line.bytes
-
-  pub reached_none : (s : State) (cs : List Call) (os : List Outcome) → Reached s cs 0 s os
-  reached_none s cs os = record { noted = refl; left = refl; bytes = λ n lt. absurd (omega arith) }
 
   pub reached_more : {s reached next : State} {cs : List Call} {os : List Outcome} {o : Outcome} (i : ℕ) (d : Call)
       → i < length cs → i < length os → Reached s cs i reached os → Bytes reached.line.bytes
@@ -51,9 +48,3 @@ module _ (wire : List ℕ → List ℕ) where
           | inr more ↦ let same : i ≡ n = omega arith in subst (λ (k : ℕ). Bytes (run_after wire s (take k cs)).line.bytes) same here
         ];
       }
-
-  pub reached_all : {s reached : State} {cs : List Call} {os : List Outcome} (i : ℕ) → length cs ≤ i → length os ≡ length cs → Reached s cs i reached os
-      → (os ≡ outcomes wire s cs) × (reached ≡ run_after wire s cs)
-  reached_all {s} {reached} {cs} {os} i end places at =
-      let whole : take i cs ≡ cs = take_all i cs (omega arith) in
-      (sym (take_all i os (omega arith)) ∙ at.noted ∙ ap (outcomes wire s) whole, at.left ∙ ap (run_after wire s) whole)

@@ -1,95 +1,87 @@
 -- The laws of reads and their replies.
 use Rattle.std.proofs.Common.{◌≡◌, ℕ, zero, suc, ◌+◌, ◌-◌, ◌%◌, ◌<◌, ◌≤◌, Bool, true, false, cond, ltb, List, [], ◌∷◌, ◌++◌, length, get_or, take, drop, replicate, is_ok, Some, Ok, Err, Option, Result, sym, refl, ap, ◌∙◌, subst, inl, inr, add-one, arith}
-use Rattle.std.specs.List.{range_with_len}
-use Rattle.std.proofs.lemmas.List.FromFn.{length-range_with_len}
-use Rattle.std.proofs.lemmas.List.{length-map, take_at}
+use Rattle.std.proofs.lemmas.List.{take_at}
 use Rattle.std.proofs.lemmas.Bool.{false≢true, both_ways, cases_eq, cond-true, cond-false, lt-ltb}
 use Rattle.command.specs.Commands.{heard_of}
 use Rattle.command.specs.declared.command.Command.TheVariants.{Read}
 use Rattle.command.specs.declared.command.Heard.TheVariants.{Whole}
 use Rattle.line.specs.Collecting.{over, too_short}
 use Rattle.line.specs.Reply.{Bytes, reply}
+use Rattle.memory.specs.Serving.{serves}
 use Rattle.refusal.specs.declared.refusal.Refusal.{Refusal}
 use Rattle.refusal.specs.declared.refusal.Refusal.TheVariants.{MemoryLength, ReplyWaits, BadTemperature, NothingWaits}
-use Rattle.recorder.specs.Contents.{Contents}
-use Rattle.recorder.specs.Map.{map_at, page_rest, page_from}
-use Rattle.recorder.specs.Control.{press_starts}
-use Rattle.model.specs.declared.calls.Answer.{Answer}
-use Rattle.model.specs.declared.calls.Answer.TheVariants.{Done, Pressed, Collected, Refused}
+use Rattle.recorder.specs.Map.{page_from}
+use Rattle.model.specs.Answers.{Answer, done, collected}
+use Rattle.model.specs.declared.calls.Action.{Action}
+use Rattle.model.specs.declared.calls.Action.TheVariants.{Byte, Second, Press}
 use Rattle.model.specs.declared.calls.Call.{Call}
-use Rattle.model.specs.declared.calls.Call.TheVariants.{Byte, Gap, Second, Press, Collect}
+use Rattle.model.specs.declared.calls.Call.TheVariants.{Lent, Gap, Collect}
+use Rattle.model.specs.declared.calls.Success.TheVariants.{Done, Pressed, Collected}
 use Rattle.model.specs.Model.{Model, fresh, with_received}
 use Rattle.model.specs.Stand.{stand}
 use Rattle.model.specs.Rules.{heard, heard_answer, replies, enable_used}
-use Rattle.model.specs.Runs.{serve, done, collected, heard_by, after, answer, wire_noted, story}
+use Rattle.model.specs.Runs.{heard_by, action_answer, after, answer, wire_noted, story}
 use Rattle.model.specs.Laws.{making, model_at, page_at, ReadsAt, Waits, Replies}
 use Rattle.model.proofs.Effects.{Did, kept, took, wiped, sent, gave, did}
 use Rattle.model.proofs.Cuts.{length_story, story_at, ends_take_more}
+use Rattle.model.proofs.Parts.{page_length}
 
 -- ---- what a collection notes
 
 abbrev is_collected : Answer → Bool
-is_collected Done = false
-is_collected (Pressed started) = false
-is_collected (Collected n) = true
-is_collected (Refused refusal) = false
+is_collected (Ok Done) = false
+is_collected (Ok (Pressed started)) = false
+is_collected (Ok (Collected n)) = true
+is_collected (Err refusal) = false
 
-never_collected : (a : Answer) (n : ℕ) → is_collected a ≡ false → a ≡ Collected n → ⊥
+never_collected : (a : Answer) (n : ℕ) → is_collected a ≡ false → a ≡ Ok (Collected n) → ⊥
 never_collected a n none e = false≢true (sym none ∙ ap is_collected e)
 
--- The answers to a byte, a second and a press, by their tests.
-byte_collects_none : (own waits : Bool) (r : Result (Unit {0}) Refusal)
-    → is_collected (cond own (cond waits (Refused ReplyWaits) (done r)) (Refused MemoryLength)) ≡ false
-byte_collects_none false waits r = refl
-byte_collects_none true true r = refl
-byte_collects_none true false (Ok u) = refl
-byte_collects_none true false (Err refusal) = refl
+-- The answers to an action, by their tests.
+byte_collects_none : (waits : Bool) (r : Result (Unit {0}) Refusal) → is_collected (cond waits (Err ReplyWaits) (done r)) ≡ false
+byte_collects_none true r = refl
+byte_collects_none false (Ok u) = refl
+byte_collects_none false (Err refusal) = refl
 
-second_collects_none : (own bad : Bool) (refusal : Refusal)
-    → is_collected (cond own (cond bad (Refused refusal) Done) (Refused MemoryLength)) ≡ false
-second_collects_none false bad refusal = refl
-second_collects_none true true refusal = refl
-second_collects_none true false refusal = refl
+second_collects_none : (bad : Bool) (refusal : Refusal) → is_collected (cond bad (Err refusal) (Ok Done)) ≡ false
+second_collects_none true refusal = refl
+second_collects_none false refusal = refl
 
-press_collects_none : (own started : Bool) → is_collected (cond own (Pressed started) (Refused MemoryLength)) ≡ false
-press_collects_none false started = refl
-press_collects_none true started = refl
+action_collects_none : (m : Model) (action : Action) → is_collected (action_answer m action) ≡ false
+action_collects_none m (Byte byte) = byte_collects_none m.line.waits (heard_answer m byte (heard_of (m.received ++ byte ∷ [])))
+action_collects_none m (Second codes) = second_collects_none (ltb 250 codes.temperature) (BadTemperature codes.temperature)
+action_collects_none m Press = refl
+
+lent_collects_none : (own : Bool) (a : Answer) → is_collected a ≡ false → is_collected (cond own a (Err MemoryLength)) ≡ false
+lent_collects_none true a none = none
+lent_collects_none false a none = refl
 
 -- A collection of the wire bytes xs, by whether a reply waits and whether the buffer is short.
 collect_gives : (waits short : Bool) (xs : List ℕ) (n : ℕ)
     → let r : Result ℕ Refusal = cond waits (cond short (too_short (length xs)) (Ok (length xs))) (Err NothingWaits) in
-    collected r ≡ Collected n → (waits ≡ true) × (take n (cond (is_ok r) (over xs (replicate 80 0)) (replicate 80 0)) ≡ xs)
+    collected r ≡ Ok (Collected n) → (waits ≡ true) × (take n (cond (is_ok r) (over xs (replicate 80 0)) (replicate 80 0)) ≡ xs)
 collect_gives true false xs n e = let l : length xs ≡ n = cc in (refl, take_at xs (drop (length xs) (replicate 80 0)) n l)
 collect_gives true true xs n e = elim (never_collected _ n refl e) [ ]
 collect_gives false short xs n e = elim (never_collected _ n refl e) [ ]
 
 module _ (wire : List ℕ → List ℕ) where
   -- Only a collection of a reply that waits answers so, and it notes the reply's wire bytes.
-  collected_wire : (m : Model) (c : Call) (n : ℕ) → answer wire m c ≡ Collected n
+  collected_wire : (m : Model) (c : Call) (n : ℕ) → answer wire m c ≡ Ok (Collected n)
       → (m.line.waits ≡ true) × (take n (wire_noted wire m c) ≡ wire m.line.bytes)
-  collected_wire m (Byte log journal byte) n e =
-      let none = byte_collects_none (serve log journal) m.line.waits (heard_answer m byte (heard_of (m.received ++ byte ∷ []))) in
+  collected_wire m (Lent log journal action) n e =
+      let none = lent_collects_none (serves log journal) (action_answer m action) (action_collects_none m action) in
       elim (never_collected _ n none e) [ ]
   collected_wire m Gap n e = elim (never_collected _ n refl e) [ ]
-  collected_wire m (Second log journal codes) n e =
-      let none = second_collects_none (serve log journal) (ltb 250 codes.temperature) (BadTemperature codes.temperature) in
-      elim (never_collected _ n none e) [ ]
-  collected_wire m (Press log journal) n e =
-      elim (never_collected _ n (press_collects_none (serve log journal) (press_starts m.registers)) e) [ ]
   collected_wire m (Collect room) n e =
       collect_gives m.line.waits (ltb room (length (wire m.line.bytes))) (wire m.line.bytes) n e
 
   -- A read that is accepted leaves its reply, and no command.
   read_replies : (m : Model) (byte address : ℕ) → m.line.waits ≡ false → heard_of (m.received ++ byte ∷ []) ≡ Whole (Read address)
-      → address < 0x1800 → after wire m (Byte 2048 16 byte) ≡ replies (enable_used (with_received m [])) address
+      → address < 0x1800 → after wire m (Lent 2048 16 (Byte byte)) ≡ replies (enable_used (with_received m [])) address
   read_replies m byte address free whole inside =
       let ready = enable_used (with_received m []) in
       cond-false m.line.waits m (heard_by m byte) free ∙ ap (heard m byte) whole
       ∙ cond-true (ltb address 0x1800) (replies ready address) ready (lt-ltb address 0x1800 inside)
-
--- A page has 1 to 32 bytes.
-page_length : (c : Contents) (address : ℕ) → length (page_from c address) ≡ page_rest address
-page_length c address = length-map (range_with_len address (page_rest address)) (map_at c) ∙ length-range_with_len address (page_rest address)
 
 -- The far end accepts the wire bytes of every reply that a line can hold, and reads its data.
 abbrev pub Carries : (List ℕ → List ℕ) → (List ℕ → Option (List ℕ)) → Type 0

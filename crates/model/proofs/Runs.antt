@@ -9,7 +9,7 @@ use Rattle.record.proofs.Records.{record_none}
 use Rattle.registers.specs.Contents.{new_contents}
 use Rattle.recorder.specs.Control.{rules_by}
 use Rattle.recorder.specs.State.{State, state, made_state}
-use Rattle.model.specs.declared.calls.Answer.{Answer}
+use Rattle.model.specs.Answers.{Answer}
 use Rattle.model.specs.declared.calls.Call.{Call}
 use Rattle.model.specs.declared.calls.Outcome.{Outcome}
 use Rattle.model.specs.Model.{Model, fresh}

@@ -5,10 +5,10 @@ use Rattle.clock.specs.Ticking.{rolls_over}
 use Rattle.mission.specs.Channels.{any_on}
 use Rattle.mission.specs.Schedule.{Countdown, due, taken}
 use Rattle.mission.specs.Setting.{can_run}
-use Rattle.mission.specs.declared.codes.Codes.{Codes}
+use Rattle.mission.specs.PerChannel.{Codes}
 use Rattle.registers.specs.Contents.{Contents as Registers, with_ready}
 use Rattle.registers.specs.Steps.{by_button, channels_on, tick_after, latch_after, count_down_after}
-use Rattle.recorder.specs.Contents.{Contents, with_registers, with_mission}
+use Rattle.recorder.specs.Contents.{Contents, joined, with_registers, with_mission}
 use Rattle.recorder.specs.Control.{press_starts}
 use Rattle.recorder.specs.Seconds.{sampled, rolled, rolled_in, passed, pressed}
 use Rattle.recorder.specs.State.{state}
@@ -19,7 +19,7 @@ use Rattle.model.specs.Stand.{countdown_at, running_at, contents_of, stand}
 use Rattle.model.proofs.Changes.{set_running, started_stands, sampled_stands}
 use Rattle.model.proofs.Parts.{countdown_takes, countdown_more}
 use Rattle.model.proofs.Sounds.{started_sound, sampled_sound}
-use Rattle.model.proofs.Ways.{contents_chosen, controls_chosen, same_chosen}
+use Rattle.model.proofs.Ways.{chosen, same_chosen}
 
 -- ---- a rollover in a mission
 
@@ -42,7 +42,7 @@ module _ (codes : Codes) (low : codes.temperature ≤ 250) where
         (countdown_more m.plan m.k (s.some_rate refl))
         ∙ ap (λ (t : Bool). state (cond t (sampled (contents_of rolling) m.plan.rules codes) (contents_of rolling)) m.line)
         (countdown_takes m.plan m.k (s.some_rate refl))
-        ∙ contents_chosen (due m.plan.delay m.plan.rate (m.k + 1)) _ _ m.line _ _
+        ∙ chosen (λ c. state c m.line) (due m.plan.delay m.plan.rate (m.k + 1)) _ _ _ _
         (λ _. sampled_stands rolling codes (s.some_channel refl) low)
         (λ _. refl)
 
@@ -103,7 +103,7 @@ module _ (r : Registers) (e : press_starts r ≡ true) where
 module _ (m : Model) (s : Sound m) where
   pub pressed_stands : state (pressed (contents_of m)) m.line ≡ stand (model_pressed m)
   pressed_stands =
-      controls_chosen (press_starts m.registers) _ _ (contents_of m).recorded m.line _ _
+      chosen (λ c. state (joined c (contents_of m).recorded) m.line) (press_starts m.registers) _ _ _ _
       (λ e. started_stands m 0 (s.no_sets (press_cleared m.registers e)))
       (λ _. refl)
 

@@ -2,7 +2,7 @@
 use Rattle.std.proofs.Common.{◌≡◌, ℕ, ◌<◌, Bool, true, false, List, [], refl}
 use Rattle.std.proofs.lemmas.Bool.{false≢true, both_ways, cond_both}
 use Rattle.mission.specs.Channels.{any_on}
-use Rattle.mission.specs.declared.codes.Codes.{Codes}
+use Rattle.mission.specs.PerChannel.{Codes}
 use Rattle.record.specs.Sets.{SampleSet}
 use Rattle.registers.specs.Steps.{channels_on}
 use Rattle.model.specs.Model.{Model, Plan, fresh}

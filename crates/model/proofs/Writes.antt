@@ -2,9 +2,10 @@
 use Rattle.std.proofs.Common.{◌≡◌, ℕ, ◌-◌, ◌<◌, Bool, true, false, cond, not, ◌&&◌, eqb, ltb, List, [], set, is_ok, Err, sym, refl, ap, ◌∙◌, subst}
 use Rattle.std.proofs.lemmas.Bool.{false≢true, and_from, and_parts, eqb-true, ltb-true, lt-ltb, cond-true, cond_both}
 use Rattle.clock.specs.declared.calendar.Moment.{Moment}
-use Rattle.mission.specs.Channels.{any_on, bit}
+use Rattle.bits.specs.Bits.{bit}
+use Rattle.mission.specs.Channels.{any_on}
 use Rattle.mission.specs.Setting.{can_run}
-use Rattle.mission.specs.declared.limits.Limits.{Limits}
+use Rattle.mission.specs.PerChannel.{Limits}
 use Rattle.refusal.specs.declared.refusal.Refusal.TheVariants.{NoChannel, NotCleared}
 use Rattle.registers.specs.Bytes.{delay_high, delay_low, switches_byte, without_clear}
 use Rattle.registers.specs.Clocking.{clock_with}
@@ -26,7 +27,7 @@ use Rattle.model.proofs.Invariants.{Keeps, Sound}
 use Rattle.model.specs.Stand.{contents_of, stand}
 use Rattle.model.proofs.Changes.{started_stands, stopped_stands}
 use Rattle.model.proofs.Sounds.{started_sound, stopped_sound}
-use Rattle.model.proofs.Ways.{controls_chosen, same_chosen}
+use Rattle.model.proofs.Ways.{chosen, either, same_chosen}
 
 -- ---- the registers
 
@@ -37,25 +38,22 @@ module _ (r : Registers) (address value : ℕ) (P : Registers → Type 0) (none 
     (switches : (x : ℕ) → P (with_switches r x)) (user : (x : List ℕ) → P (with_user r x))
     (status_1 : address ≡ 0x14 → P (with_flags r (status_1_kept r.flags value)))
     (status_2 : address ≡ 0x2A → P (with_flags r (status_2_kept r.flags value))) where
-  either : (t : Bool) (x y : Registers) → P x → P y → P (cond t x y)
-  either t x y p q = cond_both t x y P (λ _. p) (λ _. q)
-
   stored_holds : P (stored r address value)
   stored_holds =
-      either (within 0x00 0x06 address) _ _ (moment (clock_with r.moment address value))
-      (either (within 0x0B 0x0C address) _ _ (limits (limits_with r.limits address value))
-      (either (eqb address 0x0D) _ _ (rate value)
-      (either (eqb address 0x0E) _ _ (control (without_clear value) (bit 6 value))
-      (either (eqb address 0x12) _ _ (delay (delay_low r.delay value))
-      (either (eqb address 0x13) _ _ (delay (delay_high r.delay value))
+      either P (within 0x00 0x06 address) _ _ (moment (clock_with r.moment address value))
+      (either P (within 0x0B 0x0C address) _ _ (limits (limits_with r.limits address value))
+      (either P (eqb address 0x0D) _ _ (rate value)
+      (either P (eqb address 0x0E) _ _ (control (without_clear value) (bit 6 value))
+      (either P (eqb address 0x12) _ _ (delay (delay_low r.delay value))
+      (either P (eqb address 0x13) _ _ (delay (delay_high r.delay value))
       (cond_both (eqb address 0x14) _ _ P (λ e. status_1 (eqb-true address 0x14 e)) (λ _.
-      either (within 0x23 0x28 address) _ _ (limits (limits_with r.limits address value))
-      (either (eqb address 0x29) _ _ (switches (switches_byte value))
+      either P (within 0x23 0x28 address) _ _ (limits (limits_with r.limits address value))
+      (either P (eqb address 0x29) _ _ (switches (switches_byte value))
       (cond_both (eqb address 0x2A) _ _ P (λ e. status_2 (eqb-true address 0x2A e)) (λ _.
-      either (within 0x40 0x5F address) _ _ (user (set r.user (address - 0x40) value)) none))))))))))
+      either P (within 0x40 0x5F address) _ _ (user (set r.user (address - 0x40) value)) none))))))))))
 
   write_holds : P (write_after r address value)
-  write_holds = either (is_ok (write_answer r address value)) (stored r address value) r stored_holds none
+  write_holds = either P (is_ok (write_answer r address value)) (stored r address value) r stored_holds none
 
 -- A write changes nothing of whether the record reads as cleared.
 pub write_keeps : (r : Registers) (address value : ℕ) → (write_after r address value).cleared ≡ r.cleared
@@ -112,7 +110,7 @@ module _ (m : Model) (r : Registers) (address : ℕ) (stop : Bool) where
       cond stop (control.stopped stored address) stored
 
   left_stands : state (joined controls_left (contents_of m).recorded) m.line ≡ stand left
-  left_stands = controls_chosen stop _ _ (contents_of m).recorded m.line _ _ (λ _. stopped_stands (model_with m r) address) (λ _. refl)
+  left_stands = chosen (λ c. state (joined c (contents_of m).recorded) m.line) stop _ _ _ _ (λ _. stopped_stands (model_with m r) address) (λ _. refl)
 
   left_same : {A : Type 0} (f : Model → A) (x : A) → f (model_with m r) ≡ x → f (model_stopped (model_with m r) address) ≡ x → f left ≡ x
   left_same f x p q = same_chosen f stop _ _ x q p
@@ -148,7 +146,7 @@ module _ (m : Model) (r : Registers) (address : ℕ) (stop : Bool) where
       → state (joined (cond start (control.started_if_can controls_left address) controls_left) (contents_of m).recorded) m.line
       ≡ stand (cond start (model_started left address) left)
   accepted_stands start starts none =
-      controls_chosen start _ _ (contents_of m).recorded m.line _ _
+      chosen (λ c. state (joined c (contents_of m).recorded) m.line) start _ _ _ _
       (λ t. ap (λ (s : State). state (started_if_can s.contents address) s.line) left_stands
       ∙ can_start (subst (Starts m.registers) (sym left_registers) (starts t))
       ∙ started_stands left address (left_sets ∙ none t))
@@ -157,7 +155,7 @@ module _ (m : Model) (r : Registers) (address : ℕ) (stop : Bool) where
 module _ (m : Model) (address value : ℕ) (s : Sound m) where
   pub written_stands : state (written (contents_of m) address value) m.line ≡ stand (model_written m address value)
   written_stands =
-      controls_chosen (is_ok (write_answer m.registers address value)) _ _ (contents_of m).recorded m.line _ _
+      chosen (λ c. state (joined c (contents_of m).recorded) m.line) (is_ok (write_answer m.registers address value)) _ _ _ _
       (λ ok. accepted_stands m (write_after m.registers address value) address (stopping address value) (starting m.registers address value)
       (λ t. write_starts m.registers address value t ok)
       (λ t. s.no_sets (write_starts m.registers address value t ok).was_cleared))

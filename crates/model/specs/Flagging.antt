@@ -3,15 +3,12 @@ use Rattle.std.specs.Prelude.{◌≡◌, ℕ, ◌+◌, ◌<◌, ◌≤◌, Bool,
 use Rattle.command.specs.Commands.{heard_of}
 use Rattle.command.specs.declared.command.Command.TheVariants.{Write}
 use Rattle.command.specs.declared.command.Heard.TheVariants.{Whole}
-use Rattle.mission.specs.Channels.{bit}
+use Rattle.bits.specs.Bits.{bit}
 use Rattle.mission.specs.Limits.{low_code, high_code}
-use Rattle.mission.specs.declared.channels.Channels.{Channels}
-use Rattle.mission.specs.declared.codes.Codes.{Codes}
-use Rattle.mission.specs.declared.limits.LimitPair.{LimitPair}
-use Rattle.mission.specs.declared.limits.Limits.{Limits}
-use Rattle.registers.specs.declared.flags.Flags.{Flags as LimitFlags}
+use Rattle.mission.specs.PerChannel.{Channels, Codes, Flags as LimitFlags, LimitPair, Limits}
+use Rattle.model.specs.declared.calls.Action.TheVariants.{Byte, Second}
 use Rattle.model.specs.declared.calls.Call.{Call}
-use Rattle.model.specs.declared.calls.Call.TheVariants.{Byte, Gap, Second}
+use Rattle.model.specs.declared.calls.Call.TheVariants.{Lent, Gap}
 use Rattle.model.specs.Laws.{model_at}
 use Rattle.model.specs.Model.{Model}
 
@@ -82,7 +79,7 @@ is_past high limits code = high_code limits code
 -- its code is past the setting's limit.
 pub record Raises (m : Model) (c : Call) (x : Model) (channel : Channel) (side : Side) : Type 0 where
   pub codes : Codes
-  pub arrives : c ≡ Second 2048 16 codes
+  pub arrives : c ≡ Lent 2048 16 (Second codes)
   pub takes : x.made ≡ m.made + 1
   pub on : on_of channel m.plan.rules.channels ≡ true
   pub past : is_past side (limits_of channel m.plan.rules.limits) (code_of channel codes) ≡ true
@@ -92,7 +89,7 @@ pub record Raises (m : Model) (c : Call) (x : Model) (channel : Channel) (side :
 pub record Clears (m : Model) (c : Call) (channel : Channel) (side : Side) : Type 0 where
   pub byte : ℕ
   pub value : ℕ
-  pub arrives : c ≡ Byte 2048 16 byte
+  pub arrives : c ≡ Lent 2048 16 (Byte byte)
   pub free : m.line.waits ≡ false
   pub whole : heard_of (m.received ++ byte ∷ []) ≡ Whole (Write (status_of channel) value)
   pub clear : bit (bit_of channel side) value ≡ false

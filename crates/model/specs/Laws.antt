@@ -1,14 +1,15 @@
 -- Laws over whole runs.
-use Rattle.std.specs.Prelude.{◌≡◌, ℕ, ◌+◌, ◌-◌, ◌<◌, ◌≤◌, Bool, true, false, ◌&&◌, ◌||◌, ◌↔◌, List, [], ◌∷◌, ◌++◌, length, get_or, take, replicate, Some, sum, Option, nat_lt, slice_index_or, slice_range}
+use Rattle.std.specs.Prelude.{◌≡◌, ℕ, ◌+◌, ◌-◌, ◌<◌, ◌≤◌, Bool, true, false, ◌&&◌, ◌||◌, ◌↔◌, List, [], ◌∷◌, ◌++◌, length, get_or, take, replicate, Some, sum, Option, nat_lt, slice_index_or, slice_range, Ok}
 use Rattle.command.specs.Commands.{heard_of}
 use Rattle.command.specs.declared.command.Command.TheVariants.{Read}
 use Rattle.command.specs.declared.command.Heard.TheVariants.{Whole}
 use Rattle.histogram.specs.Bins.{NoneFull}
 use Rattle.line.specs.Reply.{reply}
 use Rattle.recorder.specs.Map.{page_from}
-use Rattle.model.specs.declared.calls.Answer.TheVariants.{Done, Collected}
+use Rattle.model.specs.declared.calls.Action.TheVariants.{Byte}
 use Rattle.model.specs.declared.calls.Call.{Call}
-use Rattle.model.specs.declared.calls.Call.TheVariants.{Byte, Gap}
+use Rattle.model.specs.declared.calls.Call.TheVariants.{Lent, Gap}
+use Rattle.model.specs.declared.calls.Success.TheVariants.{Done, Collected}
 use Rattle.model.specs.declared.calls.Outcome.{Outcome}
 use Rattle.model.specs.Model.{Model, fresh}
 use Rattle.model.specs.Stand.{stand}
@@ -18,7 +19,7 @@ use Rattle.model.specs.Runs.{ends}
 
 -- The moment of making: both counters are 0.
 abbrev pub making : Outcome
-making = record { answer = Done; wire = replicate 80 0; current = 0; total = 0 }
+making = record { answer = Ok Done; wire = replicate 80 0; current = 0; total = 0 }
 
 -- The moments of a run: making, and then one after each call.
 abbrev pub moments : List Outcome → List Outcome
@@ -85,7 +86,7 @@ module _ (wire : List ℕ → List ℕ) (accepted : List ℕ → Option (List �
   pub record ReadsAt (serial : List ℕ) (cs : List Call) (j address : ℕ) : Type 0 where
     pub byte : ℕ
     pub within : j < length cs
-    pub arrives : get_or cs j Gap ≡ Byte 2048 16 byte
+    pub arrives : get_or cs j Gap ≡ Lent 2048 16 (Byte byte)
     pub free : (model_at serial cs j).line.waits ≡ false
     pub whole : heard_of ((model_at serial cs j).received ++ byte ∷ []) ≡ Whole (Read address)
     pub inside : address < 0x1800
@@ -105,4 +106,4 @@ module _ (wire : List ℕ → List ℕ) (accepted : List ℕ → Option (List �
     pub page : accepted (take n bytes) ≡ Some (page_at serial cs (j + 1) address)
 
   abbrev pub Replies : List ℕ → List Call → List Outcome → Type 0
-  Replies serial cs os = (i n : ℕ) → i < length os → (get_or os i making).answer ≡ Collected n → ReadBack serial cs i n (get_or os i making).wire
+  Replies serial cs os = (i n : ℕ) → i < length os → (get_or os i making).answer ≡ Ok (Collected n) → ReadBack serial cs i n (get_or os i making).wire

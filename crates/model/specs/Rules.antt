@@ -8,7 +8,7 @@ use Rattle.command.specs.declared.command.Heard.TheVariants.{Part, Whole, Unknow
 use Rattle.line.specs.Reply.{reply}
 use Rattle.memory.specs.declared.event.EventKind.TheVariants as kind
 use Rattle.mission.specs.Schedule.{due}
-use Rattle.mission.specs.declared.codes.Codes.{Codes}
+use Rattle.mission.specs.PerChannel.{Codes}
 use Rattle.refusal.specs.declared.refusal.Refusal.{Refusal}
 use Rattle.refusal.specs.declared.refusal.Refusal.TheVariants.{UnknownCommand, OutsideMap, InMission, ClearDisabled}
 use Rattle.registers.specs.Contents.{with_ready}

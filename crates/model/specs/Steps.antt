@@ -1,45 +1,48 @@
 -- The same calls on what a recorder holds, with its own memories lent where a call says their lengths.
-use Rattle.std.specs.Prelude.{ℕ, Bool, cond, List, [], ◌∷◌, replicate, is_ok, Ok, Err, Result}
+use Rattle.std.specs.Prelude.{ℕ, cond, List, [], ◌∷◌, replicate, is_ok, Ok, Err, Result}
 use Rattle.line.specs.Collecting.{over, collect_answer}
 use Rattle.line.specs.Reply.{emptied}
+use Rattle.memory.specs.Serving.{serves}
 use Rattle.refusal.specs.declared.refusal.Refusal.{Refusal}
 use Rattle.refusal.specs.declared.refusal.Refusal.TheVariants.{MemoryLength}
 use Rattle.recorder.specs.State.{State, state, byte_answer, byte_after, gap_after, second_answer, second_after, press_answer, press_after}
-use Rattle.model.specs.declared.calls.Answer.{Answer}
-use Rattle.model.specs.declared.calls.Answer.TheVariants.{Done, Pressed, Refused}
+use Rattle.model.specs.Answers.{Answer, done, pressed, collected}
+use Rattle.model.specs.declared.calls.Action.{Action}
+use Rattle.model.specs.declared.calls.Action.TheVariants.{Byte, Second, Press}
 use Rattle.model.specs.declared.calls.Call.{Call}
-use Rattle.model.specs.declared.calls.Call.TheVariants.{Byte, Gap, Second, Press, Collect}
+use Rattle.model.specs.declared.calls.Call.TheVariants.{Lent, Gap, Collect}
+use Rattle.model.specs.declared.calls.Success.TheVariants.{Done}
 use Rattle.model.specs.declared.calls.Outcome.{Outcome}
-use Rattle.model.specs.Runs.{serve, done, collected}
 
-abbrev pub pressed : Result Bool Refusal → Answer
-pressed (Ok started) = Pressed started
-pressed (Err refusal) = Refused refusal
+-- What an action answers, and what it leaves.
+abbrev pub act_answer : State → Action → Answer
+act_answer s (Byte byte) = done (byte_answer s byte)
+act_answer s (Second codes) = done (second_answer s codes)
+act_answer s Press = pressed (press_answer s)
+
+abbrev pub act_after : State → Action → State
+act_after s (Byte byte) = byte_after s byte
+act_after s (Second codes) = second_after s codes
+act_after s Press = press_after s
 
 module _ (wire : List ℕ → List ℕ) where
   abbrev pub collect_result : State → ℕ → Result ℕ Refusal
   collect_result s room = collect_answer (wire s.line.bytes) s.line room
 
   abbrev pub call_answer : State → Call → Answer
-  call_answer s (Byte log journal byte) = cond (serve log journal) (done (byte_answer s byte)) (Refused MemoryLength)
-  call_answer s Gap = Done
-  call_answer s (Second log journal codes) = cond (serve log journal) (done (second_answer s codes)) (Refused MemoryLength)
-  call_answer s (Press log journal) = cond (serve log journal) (pressed (press_answer s)) (Refused MemoryLength)
+  call_answer s (Lent log journal action) = cond (serves log journal) (act_answer s action) (Err MemoryLength)
+  call_answer s Gap = Ok Done
   call_answer s (Collect room) = collected (collect_result s room)
 
   abbrev pub call_after : State → Call → State
-  call_after s (Byte log journal byte) = cond (serve log journal) (byte_after s byte) s
+  call_after s (Lent log journal action) = cond (serves log journal) (act_after s action) s
   call_after s Gap = gap_after s
-  call_after s (Second log journal codes) = cond (serve log journal) (second_after s codes) s
-  call_after s (Press log journal) = cond (serve log journal) (press_after s) s
   call_after s (Collect room) = state s.contents (cond (is_ok (collect_result s room)) emptied s.line)
 
   -- A buffer after a call: a collection writes its wire bytes to the front.
   abbrev pub wire_over : State → Call → List ℕ → List ℕ
-  wire_over s (Byte log journal byte) buffer = buffer
+  wire_over s (Lent log journal action) buffer = buffer
   wire_over s Gap buffer = buffer
-  wire_over s (Second log journal codes) buffer = buffer
-  wire_over s (Press log journal) buffer = buffer
   wire_over s (Collect room) buffer = cond (is_ok (collect_result s room)) (over (wire s.line.bytes) buffer) buffer
 
   -- The wire bytes that a call collects, and then zeros up to 80.

@@ -1,50 +1,49 @@
 //! The calls of a run, and what is noted of each.
+use line::WIRE_BYTES;
 use mission::Codes;
 use refusal::Refusal;
 
-/// How many wire bytes a reply has at most, on any line.
-pub const WIRE_BYTES: usize = 80;
+/// What happens to a recorder while it is lent its memories.
+#[derive(Clone, Copy)]
+pub enum Action {
+    /// A byte arrives on the cable.
+    Byte(u8),
+    /// A second passes, with the codes of the sensors.
+    Second(Codes),
+    /// The button is pressed.
+    Press,
+}
 
-/// A call on a recorder, with the lengths of the memories that it is lent.
+/// A call on a recorder.
 #[derive(Clone, Copy)]
 pub enum Call {
-    /// A byte arrives on the cable.
-    Byte {
+    /// An action, with memories of these lengths lent.
+    Lent {
         log: usize,
         journal: usize,
-        byte: u8,
+        action: Action,
     },
     /// The cable has a gap.
     Gap,
-    /// A second passes, with the codes of the sensors.
-    Second {
-        log: usize,
-        journal: usize,
-        codes: Codes,
-    },
-    /// The button is pressed.
-    Press {
-        log: usize,
-        journal: usize,
-    },
     /// The reply that waits is collected into a buffer of so many bytes.
     Collect {
         room: usize,
     },
 }
 
-/// What a call answered.
-#[derive(Clone, Copy)]
-pub enum Answer {
+/// What a call that was not refused says.
+#[derive(Clone, Copy, PartialEq, Eq, Debug)]
+pub enum Success {
     /// It was done, and had nothing to say.
     Done,
     /// Whether a press started a mission.
     Pressed(bool),
     /// How many wire bytes were collected.
     Collected(usize),
-    /// Why it was refused.
-    Refused(Refusal),
 }
+
+/// What a call answered.
+pub type Answer = Result<Success, Refusal>;
 
 /// What is noted of a call: its answer, the wire bytes that it collected (then zeros), and the two counters after it.
 #[derive(Clone, Copy)]

@@ -5,5 +5,5 @@ mod calls;
 mod performing;
 mod running;
 
-pub use calls::{Answer, Call, Outcome, WIRE_BYTES};
+pub use calls::{Action, Answer, Call, Outcome, Success};
 pub use running::run;

@@ -4,52 +4,40 @@ ghost use Rattle.line.specs.Collecting.{collect_answer, over};
 ghost use Rattle.memory.specs.declared.event.JournalEntry.{JournalEntry};
 ghost use Rattle.recorder.specs.Seen.{seen};
 ghost use Rattle.model.specs.Fits.{fits, lendable};
-ghost use Rattle.model.specs.Runs.{serve, done, collected};
-ghost use Rattle.model.specs.Steps.{call_answer, call_after, call_outcome, pressed, wire_over};
+ghost use Rattle.memory.specs.Serving.{serves};
+ghost use Rattle.model.specs.Steps.{act_answer, act_after, call_answer, call_after, call_outcome, wire_over};
 
-use crate::calls::{Answer, Call, Outcome, WIRE_BYTES};
-use line::Line;
-use memory::{Journal, JournalEntry, Log};
-use mission::Codes;
+use crate::calls::{Action, Answer, Call, Outcome, Success};
+use line::{Line, WIRE_BYTES};
+use memory::{JournalEntry, can_serve};
 use recorder::Recorder;
-use refusal::Refusal;
 
-/// Whether memories of these lengths can serve a recorder.
-pub(crate) fn can_serve(log: usize, journal: usize) -> bool
-    ensures { result ≡ serve log journal }
+/// Performs the action with these memories.
+fn act<L: Line>(
+    recorder: &mut Recorder<L>,
+    log: &mut [u8],
+    journal: &mut [JournalEntry],
+    action: Action,
+) -> Answer
+    ensures answer { result ≡ act_answer (seen L.meaning recorder.old log.old journal.old) action }
+    ensures after { seen L.meaning recorder.new log.new journal.new ≡ act_after (seen L.meaning recorder.old log.old journal.old) action }
+    ensures kept { serves (length log.old) (length journal.old) ≡ false → (recorder.new ≡ recorder.old) × (log.new ≡ log.old) × (journal.new ≡ journal.old) }
 {
-    log == Log::BYTES && journal == Journal::ENTRIES
-}
-
-fn done(answer: Result<(), Refusal>) -> Answer
-    ensures { result ≡ done answer }
-{
-    match answer {
-        Ok(()) => Answer::Done,
-        Err(refusal) => Answer::Refused(refusal),
+    match action {
+        Action::Byte(byte) => {
+            recorder.byte(log, journal, byte)?;
+            Ok(Success::Done)
+        }
+        Action::Second(codes) => {
+            recorder.second(log, journal, codes)?;
+            Ok(Success::Done)
+        }
+        Action::Press => Ok(Success::Pressed(recorder.press(log, journal)?)),
     }
 }
 
-fn pressed(answer: Result<bool, Refusal>) -> Answer
-    ensures { result ≡ pressed answer }
-{
-    match answer {
-        Ok(started) => Answer::Pressed(started),
-        Err(refusal) => Answer::Refused(refusal),
-    }
-}
-
-fn collected(answer: Result<usize, Refusal>) -> Answer
-    ensures { result ≡ collected answer }
-{
-    match answer {
-        Ok(count) => Answer::Collected(count),
-        Err(refusal) => Answer::Refused(refusal),
-    }
-}
-
-/// A byte arrives, with memories of these lengths: the recorder's own, or else the fronts of spare ones.
-fn byte<L: Line>(
+/// Performs the action with memories of these lengths: the recorder's own, or else the fronts of spare ones.
+fn act_with<L: Line>(
     recorder: &mut Recorder<L>,
     log: &mut [u8],
     journal: &mut [JournalEntry],
@@ -57,63 +45,23 @@ fn byte<L: Line>(
     spare_journal: &mut [JournalEntry],
     n: usize,
     k: usize,
-    byte: u8,
+    action: Action,
 ) -> Answer
     requires { lendable (length spare_log.old) (length spare_journal.old) n k ≡ true }
-    ensures answer { result ≡ call_answer L.wire (seen L.meaning recorder.old log.old journal.old) (Call.Byte n k byte) }
-    ensures after { seen L.meaning recorder.new log.new journal.new ≡ call_after L.wire (seen L.meaning recorder.old log.old journal.old) (Call.Byte n k byte) }
+    ensures answer { result ≡ call_answer L.wire (seen L.meaning recorder.old log.old journal.old) (Call.Lent n k action) }
+    ensures after { seen L.meaning recorder.new log.new journal.new ≡ call_after L.wire (seen L.meaning recorder.old log.old journal.old) (Call.Lent n k action) }
     ensures spare_log { spare_log.new ≡ spare_log.old }
     ensures spare_journal { spare_journal.new ≡ spare_journal.old }
 {
     if can_serve(n, k) {
-        return done(recorder.byte(log, journal, byte));
+        return act(recorder, log, journal, action);
     }
-    done(recorder.byte(&mut spare_log[0..n], &mut spare_journal[0..k], byte))
-}
-
-/// A second passes, with memories of these lengths: the recorder's own, or else the fronts of spare ones.
-fn second<L: Line>(
-    recorder: &mut Recorder<L>,
-    log: &mut [u8],
-    journal: &mut [JournalEntry],
-    spare_log: &mut [u8],
-    spare_journal: &mut [JournalEntry],
-    n: usize,
-    k: usize,
-    codes: Codes,
-) -> Answer
-    requires { lendable (length spare_log.old) (length spare_journal.old) n k ≡ true }
-    ensures answer { result ≡ call_answer L.wire (seen L.meaning recorder.old log.old journal.old) (Call.Second n k codes) }
-    ensures after { seen L.meaning recorder.new log.new journal.new ≡ call_after L.wire (seen L.meaning recorder.old log.old journal.old) (Call.Second n k codes) }
-    ensures spare_log { spare_log.new ≡ spare_log.old }
-    ensures spare_journal { spare_journal.new ≡ spare_journal.old }
-{
-    if can_serve(n, k) {
-        return done(recorder.second(log, journal, codes));
-    }
-    done(recorder.second(&mut spare_log[0..n], &mut spare_journal[0..k], codes))
-}
-
-/// The button is pressed, with memories of these lengths: the recorder's own, or else the fronts of spare ones.
-fn press<L: Line>(
-    recorder: &mut Recorder<L>,
-    log: &mut [u8],
-    journal: &mut [JournalEntry],
-    spare_log: &mut [u8],
-    spare_journal: &mut [JournalEntry],
-    n: usize,
-    k: usize,
-) -> Answer
-    requires { lendable (length spare_log.old) (length spare_journal.old) n k ≡ true }
-    ensures answer { result ≡ call_answer L.wire (seen L.meaning recorder.old log.old journal.old) (Call.Press n k) }
-    ensures after { seen L.meaning recorder.new log.new journal.new ≡ call_after L.wire (seen L.meaning recorder.old log.old journal.old) (Call.Press n k) }
-    ensures spare_log { spare_log.new ≡ spare_log.old }
-    ensures spare_journal { spare_journal.new ≡ spare_journal.old }
-{
-    if can_serve(n, k) {
-        return pressed(recorder.press(log, journal));
-    }
-    pressed(recorder.press(&mut spare_log[0..n], &mut spare_journal[0..k]))
+    act(
+        recorder,
+        &mut spare_log[0..n],
+        &mut spare_journal[0..k],
+        action,
+    )
 }
 
 /// The reply that waits is collected into the front of `wire`.
@@ -123,7 +71,7 @@ fn collect<L: Line>(recorder: &mut Recorder<L>, room: usize, wire: &mut [u8; WIR
     ensures after { (log : List ℕ) (journal : List JournalEntry) → seen L.meaning recorder.new log journal ≡ call_after L.wire (seen L.meaning recorder.old log journal) (Call.Collect room) }
     ensures wire { wire.new ≡ (if is_ok (collect_answer (L.wire (L.meaning recorder.old.line).bytes) (L.meaning recorder.old.line) room) then over (L.wire (L.meaning recorder.old.line).bytes) wire.old else wire.old) }
 {
-    collected(recorder.collect(&mut wire[0..room]))
+    recorder.collect(&mut wire[0..room]).map(Success::Collected)
 }
 
 /// Performs one call on a recorder, and notes what came of it.
@@ -177,20 +125,11 @@ fn answer<L: Line>(
     ensures spare_journal { spare_journal.new ≡ spare_journal.old }
 {
     match call {
-        Call::Byte {
+        Call::Lent {
             log: n,
             journal: k,
-            byte: b,
-        } => byte(recorder, log, journal, spare_log, spare_journal, n, k, b),
-        Call::Gap => {
-            recorder.gap();
-            Answer::Done
-        }
-        Call::Second {
-            log: n,
-            journal: k,
-            codes,
-        } => second(
+            action,
+        } => act_with(
             recorder,
             log,
             journal,
@@ -198,10 +137,11 @@ fn answer<L: Line>(
             spare_journal,
             n,
             k,
-            codes,
+            action,
         ),
-        Call::Press { log: n, journal: k } => {
-            press(recorder, log, journal, spare_log, spare_journal, n, k)
+        Call::Gap => {
+            recorder.gap();
+            Ok(Success::Done)
         }
         Call::Collect { room } => collect(recorder, room, wire),
     }

@@ -7,15 +7,15 @@ ghost use Rattle.model.specs.Fits.{Narrow, all_fit, fits, lendable, runnable};
 ghost use Rattle.model.specs.Flagging.{Flags};
 ghost use Rattle.model.specs.Laws.{BinsAddUp};
 ghost use Rattle.model.specs.Model.{fresh};
-ghost use Rattle.model.specs.Runs.{ends, serve};
+ghost use Rattle.model.specs.Runs.{ends};
 ghost use Rattle.model.specs.Steps.{outcomes, run_after};
 ghost use Rattle.model.specs.Theorem.{Ran};
 
-use crate::calls::{Call, Outcome, WIRE_BYTES};
-use crate::performing::{can_serve, perform};
-use line::Line;
-use memory::JournalEntry;
-use recorder::Recorder;
+use crate::calls::{Call, Outcome};
+use crate::performing::perform;
+use line::{Line, WIRE_BYTES};
+use memory::{JournalEntry, can_serve};
+use recorder::{Recorder, SERIAL_BYTES};
 
 /// Whether memories of these lengths can be lent: the recorder's own, or the fronts of spare ones.
 fn can_lend(spare_log: usize, spare_journal: usize, log: usize, journal: usize) -> bool
@@ -30,18 +30,12 @@ fn can_perform(spare_log: usize, spare_journal: usize, call: Call) -> bool
     ensures narrow { Narrow call }
 {
     match call {
-        Call::Byte {
+        Call::Lent {
             log,
             journal,
-            byte: _,
+            action: _,
         } => can_lend(spare_log, spare_journal, log, journal),
         Call::Gap => true,
-        Call::Second {
-            log,
-            journal,
-            codes: _,
-        } => { can_lend(spare_log, spare_journal, log, journal) }
-        Call::Press { log, journal } => can_lend(spare_log, spare_journal, log, journal),
         Call::Collect { room } => room <= WIRE_BYTES,
     }
 }
@@ -51,12 +45,9 @@ fn can_perform_all(spare_log: usize, spare_journal: usize, calls: &[Call]) -> bo
     ensures fit { result ≡ all_fit spare_log spare_journal calls.now }
     ensures narrow { result ≡ true → AllByRecursion Narrow calls.now }
 {
-    for call in calls {
-        if !can_perform(spare_log, spare_journal, *call) {
-            return false;
-        }
-    }
-    true
+    calls
+        .iter()
+        .all(|call| can_perform(spare_log, spare_journal, *call))
 }
 
 /// Performs each of the calls on a recorder, and notes what came of each.
@@ -77,8 +68,8 @@ fn perform_all<L: Line>(
     ensures spare_log { spare_log.new ≡ spare_log.old }
     ensures spare_journal { spare_journal.new ≡ spare_journal.old }
 {
-    for i in 0..calls.len() {
-        notes[i] = perform(recorder, log, journal, spare_log, spare_journal, calls[i]);
+    for (i, call) in calls.iter().enumerate() {
+        notes[i] = perform(recorder, log, journal, spare_log, spare_journal, *call);
     }
 }
 
@@ -90,7 +81,7 @@ fn perform_all<L: Line>(
 pub fn run<L: Line>(
     calls: &[Call],
     line: L,
-    serial: [u8; 8],
+    serial: [u8; SERIAL_BYTES],
     log: &mut [u8],
     journal: &mut [JournalEntry],
     spare_log: &mut [u8],

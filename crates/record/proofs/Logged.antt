@@ -12,7 +12,7 @@ use Rattle.record.specs.Sets.{SampleSet, Rules, row_for, width_by}
 use Rattle.record.specs.Contents.{Contents}
 use Rattle.record.specs.Histories.{Reads, rows_of, record_of}
 use Rattle.record.specs.Taking.{taken}
-use Rattle.record.proofs.Rows.{rowed, lawful_width}
+use Rattle.record.proofs.Rows.{lawful_width, wide_row}
 
 -- ---- No row yet, whatever the width
 
@@ -50,7 +50,7 @@ mark w n (inr (inr e)) = rw e (scaled 4 512 n (omega arith))
 module _ (p : Rules) (h : any_on p.channels ≡ true) where
   wide_rows : (sets : List SampleSet) → Wide (width_by p) (rows_of p sets)
   wide_rows [] = tt
-  wide_rows (s ∷ sets) = ((rowed p.channels s.codes h).wide, wide_rows sets)
+  wide_rows (s ∷ sets) = (wide_row p.channels s.codes h, wide_rows sets)
 
   -- The log of a history stands for its rows.
   pub log_stands : (sets : List SampleSet)
@@ -68,14 +68,14 @@ module _ (p : Rules) (h : any_on p.channels ≡ true) where
       LogStands p.roll_over (width_by p) (rows_of p (sets ++ s ∷ [])) k.memory k.next k.full
   log_stands_more sets s =
       rw (map_push (row_for p) sets s)
-      (row_after (width_by p) (rows_of p sets) (row_for p s) _ _ _ _ _ _ (rowed p.channels s.codes h).wide p.roll_over refl refl refl
+      (row_after (width_by p) (rows_of p sets) (row_for p s) _ _ _ _ _ _ (wide_row p.channels s.codes h) p.roll_over refl refl refl
       (log_stands sets))
 
   -- A reader finds the rows of the history with that set.
   pub reads_more : (sets : List SampleSet) (s : SampleSet) → Reads p (sets ++ s ∷ []) (taken p (record_of p sets) s).memory
   reads_more sets s =
       rw (map_push (row_for p) sets s)
-      (row_reads (width_by p) (rows_of p sets) (row_for p s) _ _ _ _ _ _ (rowed p.channels s.codes h).wide p.roll_over refl refl refl
+      (row_reads (width_by p) (rows_of p sets) (row_for p s) _ _ _ _ _ _ (wide_row p.channels s.codes h) p.roll_over refl refl refl
       (log_stands sets))
 
   -- It is the log of that history that the reader has.

@@ -24,15 +24,15 @@ abbrev pub seen : Record → List ℕ → Contents
 seen r memory = record {
   current = r.current.count;
   stamp = r.stamp;
-  next = r.log.next;
+  next = r.log.ring.next;
   full = r.log.full;
   memory = memory;
   temperatures = r.temperatures.bins;
   voltages = r.voltages.bins;
-  temperature_low = held_in r.temperature_low;
-  temperature_high = held_in r.temperature_high;
-  one_low = held_in r.one_low;
-  one_high = held_in r.one_high;
+  temperature_low = held_in r.temperature_alarms.low;
+  temperature_high = held_in r.temperature_alarms.high;
+  one_low = held_in r.one_alarms.low;
+  one_high = held_in r.one_alarms.high;
 }
 
 -- A record of no set, over a memory.

@@ -2,8 +2,7 @@
 use Rattle.std.specs.Prelude.{◌≡◌, ℕ, Bool, true, false, List, [], ◌∷◌}
 use Rattle.clock.specs.declared.calendar.Moment.{Moment}
 use Rattle.memory.specs.declared.row.Row.TheVariants.{Two, Four}
-use Rattle.mission.specs.declared.codes.Codes.{Codes}
-use Rattle.mission.specs.declared.limits.LimitPair.{LimitPair}
+use Rattle.mission.specs.PerChannel.{Codes, LimitPair}
 use Rattle.record.specs.Sets.{SampleSet, Rules, row_with}
 use Rattle.record.specs.Contents.{Contents}
 use Rattle.record.specs.Histories.{record_of, rows_of}

@@ -1,5 +1,5 @@
 -- A sample set, and the rules of a mission by which it is recorded.
-use Rattle.std.specs.Prelude.{ℕ, Bool, cond, ◌&&◌, List, [], ◌∷◌, ◌++◌}
+use Rattle.std.specs.Prelude.{ℕ, Bool, cond, List, [], ◌∷◌, ◌++◌}
 use Rattle.std.specs.Option.{unwrap_or}
 use Rattle.clock.specs.Registers.{reading}
 use Rattle.clock.specs.declared.calendar.Moment.{Moment}
@@ -8,10 +8,8 @@ use Rattle.memory.specs.Rows.{row_of}
 use Rattle.memory.specs.declared.row.Row.{Row}
 use Rattle.memory.specs.declared.row.Row.TheVariants.{One}
 use Rattle.mission.specs.Channels.{number_on, row_width}
-use Rattle.mission.specs.Limits.{low_code, high_code}
-use Rattle.mission.specs.declared.channels.Channels.{Channels}
-use Rattle.mission.specs.declared.codes.Codes.{Codes}
-use Rattle.mission.specs.declared.limits.Limits.{Limits}
+use Rattle.mission.specs.Limits.{past}
+use Rattle.mission.specs.PerChannel.{Channels, Codes, Flags, Limits}
 use Rattle.mission.specs.declared.setting.Setting.{Setting}
 
 -- A sample set: the codes of one second, and the clock's moment at that second.
@@ -61,18 +59,22 @@ row_for p s = row_with p.channels s.codes
 abbrev pub width_by : Rules → ℕ
 width_by p = row_width (number_on p.channels)
 
+-- The limits that a set is at or past, of the channels that are on.
+abbrev pub past_by : Rules → SampleSet → Flags
+past_by p s = past p.limits p.channels s.codes
+
 -- The set is at or past the low limit of temperature, and temperature is on.
 abbrev pub temperature_is_low : Rules → SampleSet → Bool
-temperature_is_low p s = p.channels.temperature && low_code p.limits.temperature s.codes.temperature
+temperature_is_low p s = (past_by p s).temperature.low
 
 -- The set is at or past the high limit of temperature, and temperature is on.
 abbrev pub temperature_is_high : Rules → SampleSet → Bool
-temperature_is_high p s = p.channels.temperature && high_code p.limits.temperature s.codes.temperature
+temperature_is_high p s = (past_by p s).temperature.high
 
 -- The set is at or past the low limit of channel 1, and channel 1 is on.
 abbrev pub one_is_low : Rules → SampleSet → Bool
-one_is_low p s = p.channels.one && low_code p.limits.one s.codes.one
+one_is_low p s = (past_by p s).one.low
 
 -- The set is at or past the high limit of channel 1, and channel 1 is on.
 abbrev pub one_is_high : Rules → SampleSet → Bool
-one_is_high p s = p.channels.one && high_code p.limits.one s.codes.one
+one_is_high p s = (past_by p s).one.high

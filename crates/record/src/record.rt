@@ -8,6 +8,7 @@ use alarm::AlarmTable;
 use counter::Counter;
 use histogram::{TemperatureHistogram, VoltageHistogram};
 use memory::Log;
+use mission::Sides;
 
 /// The record of the sample sets since the last clear. The log's rows are in memory that is lent at each call.
 #[derive(Clone, Copy)]
@@ -19,8 +20,6 @@ pub struct Record {
     log: Log,
     temperatures: TemperatureHistogram,
     voltages: VoltageHistogram,
-    temperature_low: AlarmTable,
-    temperature_high: AlarmTable,
-    one_low: AlarmTable,
-    one_high: AlarmTable,
+    temperature_alarms: Sides<AlarmTable>,
+    one_alarms: Sides<AlarmTable>,
 }

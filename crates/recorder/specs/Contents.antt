@@ -1,6 +1,7 @@
 -- What a recorder holds besides its line, together with the two memories that it is lent.
-use Rattle.std.specs.Prelude.{ℕ, Bool, false, ◌&&◌, List, [], length, replicate, is_some, None, Option, ◌==◌}
+use Rattle.std.specs.Prelude.{ℕ, Bool, false, List, [], length, replicate, is_some, None, Option}
 use Rattle.memory.specs.Events.{blank_entry}
+use Rattle.memory.specs.Serving.{serves}
 use Rattle.memory.specs.declared.event.JournalEntry.{JournalEntry}
 use Rattle.record.specs.Contents.{Contents as Record, seen as record_seen, empty_over}
 use Rattle.registers.specs.Contents.{Contents as Registers, new_contents}
@@ -55,7 +56,7 @@ in_mission c = is_some c.mission
 
 -- The memories have the right lengths.
 abbrev pub whole_memories : Contents → Bool
-whole_memories c = length c.recorded.memory == 2048 && length c.journal == 16
+whole_memories c = serves (length c.recorded.memory) (length c.journal)
 
 -- A recorder as it is made, over these memories: nothing has happened.
 abbrev pub made_over : List ℕ → List ℕ → List JournalEntry → Contents

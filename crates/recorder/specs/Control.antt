@@ -46,7 +46,7 @@ controls c journal = record {
   sensing = c.sensing;
   mission = mission_as c.mission;
   total = c.total.count;
-  place = c.journal.next;
+  place = c.journal.ring.next;
   journal = journal;
 }
 

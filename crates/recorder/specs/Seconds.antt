@@ -3,7 +3,7 @@ use Rattle.std.specs.Prelude.{◌+◌, Bool, true, false, cond, Some, None, Opti
 use Rattle.clock.specs.Ticking.{rolls_over}
 use Rattle.counter.specs.Counting.{counted}
 use Rattle.mission.specs.Schedule.{taken, ticked}
-use Rattle.mission.specs.declared.codes.Codes.{Codes}
+use Rattle.mission.specs.PerChannel.{Codes}
 use Rattle.record.specs.Sets.{SampleSet, Rules}
 use Rattle.record.specs.Taking.{taken as set_taken}
 use Rattle.registers.specs.Contents.{Contents as Registers, with_ready}

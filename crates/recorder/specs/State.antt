@@ -7,7 +7,7 @@ use Rattle.command.specs.declared.command.Heard.{Heard}
 use Rattle.command.specs.declared.command.Heard.TheVariants.{Part, Whole, Unknown}
 use Rattle.line.specs.Reply.{Reply, emptied}
 use Rattle.line.specs.Sending.{send_after}
-use Rattle.mission.specs.declared.codes.Codes.{Codes}
+use Rattle.mission.specs.PerChannel.{Codes}
 use Rattle.refusal.specs.declared.refusal.Refusal.{Refusal}
 use Rattle.refusal.specs.declared.refusal.Refusal.TheVariants.{MemoryLength, ReplyWaits, UnknownCommand, BadTemperature}
 use Rattle.recorder.specs.Contents.{Contents, made, whole_memories, with_received}

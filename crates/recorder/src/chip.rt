@@ -36,5 +36,5 @@ pub struct Chip {
 
 mod clearing;
 mod controlling;
-pub(crate) mod mapping;
+mod mapping;
 mod passing;

@@ -6,3 +6,4 @@ mod recorder;
 
 pub use chip::{Chip, Control, Mission};
 pub use recorder::{NotMade, Recorder};
+pub use registers::SERIAL_BYTES;

@@ -11,12 +11,12 @@ pub enum Shortage {
     Sheet,
 }
 
-impl Shortage {
-    /// The layer that reports it.
-    fn layer(self) -> Layer
-        ensures { result ≡ layer_of self }
-    {
-        match self {
+/// The layer that reports a shortage.
+impl From<Shortage> for Layer {
+    ghost from_gives = { λ shortage layer. layer ≡ layer_of shortage };
+
+    fn from(shortage: Shortage) -> Layer {
+        match shortage {
             Shortage::Line => Layer::Line,
             Shortage::Sheet => Layer::Sheet,
         }
@@ -69,49 +69,56 @@ const READ_SENSORS: usize = 0x55;
 /// The command that clears the record.
 const CLEAR: usize = 0xA5;
 
-impl Refusal {
-    /// The number, layer and place by which this refusal is reported.
-    pub fn report(self) -> Report
-        ensures { result ≡ report_of self }
-    {
-        match self {
-            Refusal::MemoryLength => Report::new(1, Layer::Memory, 0),
-            Refusal::ReplyWaits => Report::new(2, Layer::Line, 0),
-            Refusal::UnknownCommand { byte } => Report::new(3, Layer::Command, byte as usize),
-            Refusal::NoRule { address } => Report::new(4, Layer::Register, address as usize),
-            Refusal::BadValue { address } => Report::new(5, Layer::Register, address as usize),
-            Refusal::NotCleared => Report::new(6, Layer::Register, SAMPLE_RATE),
-            Refusal::NoChannel => Report::new(7, Layer::Register, SAMPLE_RATE),
-            Refusal::OutsideMap { address } => Report::new(8, Layer::Command, address as usize),
-            Refusal::InMission => Report::new(9, Layer::Command, READ_SENSORS),
-            Refusal::ClearDisabled => Report::new(10, Layer::Command, CLEAR),
-            Refusal::NothingWaits => Report::new(11, Layer::Line, 0),
-            Refusal::TooShort { of, wanted } => Report::new(12, of.layer(), wanted),
-            Refusal::BadTemperature { code } => Report::new(13, Layer::Sample, code as usize),
-            Refusal::LineFull => Report::new(14, Layer::Line, 0),
-            Refusal::BadWire => Report::new(15, Layer::Line, 0),
-            Refusal::BadSection { offset } => Report::new(16, Layer::Sheet, offset),
+/// The number, layer and place by which a refusal is reported.
+impl From<Refusal> for Report {
+    ghost from_gives = { λ refusal report. report ≡ report_of refusal };
+
+    fn from(refusal: Refusal) -> Report {
+        let (number, layer, place) = match refusal {
+            Refusal::MemoryLength => (1, Layer::Memory, 0),
+            Refusal::ReplyWaits => (2, Layer::Line, 0),
+            Refusal::UnknownCommand { byte } => (3, Layer::Command, usize::from(byte)),
+            Refusal::NoRule { address } => (4, Layer::Register, usize::from(address)),
+            Refusal::BadValue { address } => (5, Layer::Register, usize::from(address)),
+            Refusal::NotCleared => (6, Layer::Register, SAMPLE_RATE),
+            Refusal::NoChannel => (7, Layer::Register, SAMPLE_RATE),
+            Refusal::OutsideMap { address } => (8, Layer::Command, usize::from(address)),
+            Refusal::InMission => (9, Layer::Command, READ_SENSORS),
+            Refusal::ClearDisabled => (10, Layer::Command, CLEAR),
+            Refusal::NothingWaits => (11, Layer::Line, 0),
+            Refusal::TooShort { of, wanted } => (12, Layer::from(of), wanted),
+            Refusal::BadTemperature { code } => (13, Layer::Sample, usize::from(code)),
+            Refusal::LineFull => (14, Layer::Line, 0),
+            Refusal::BadWire => (15, Layer::Line, 0),
+            Refusal::BadSection { offset } => (16, Layer::Sheet, offset),
+        };
+        Report {
+            number,
+            layer,
+            place,
         }
     }
+}
 
+impl Refusal {
     /// The number of this refusal in the list of causes.
     pub fn number(self) -> u8
         ensures { result ≡ (report_of self).number }
     {
-        self.report().number
+        Report::from(self).number
     }
 
     /// The layer that found the cause.
     pub fn layer(self) -> Layer
         ensures { result ≡ (report_of self).layer }
     {
-        self.report().layer
+        Report::from(self).layer
     }
 
     /// Where the cause was found: a byte, an address, a length, a code or an offset; 0 where the layer says it all.
     pub fn place(self) -> usize
         ensures { result ≡ (report_of self).place }
     {
-        self.report().place
+        Report::from(self).place
     }
 }

@@ -2,7 +2,7 @@
 use Rattle.std.proofs.Common.{◌≡◌, ℕ, ◌-◌, true, false, eqb, set, arith}
 use Rattle.std.proofs.lemmas.Bool.{cond_both}
 use Rattle.std.proofs.lemmas.Bool.Decides.{nat_tests}
-use Rattle.mission.specs.Channels.{bit}
+use Rattle.bits.specs.Bits.{bit}
 use Rattle.registers.specs.Bytes.{delay_high, delay_low, switches_byte, without_clear}
 use Rattle.registers.specs.Clocking.{clock_with}
 use Rattle.registers.specs.Contents.{Contents, with_control, with_delay, with_flags, with_limits, with_moment, with_rate, with_switches, with_user}

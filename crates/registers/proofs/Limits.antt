@@ -1,7 +1,7 @@
 -- What the registers of the limits show after a write of one of them.
 use Rattle.std.proofs.Common.{◌≡◌, ℕ, true, ◌||◌, arith}
 use Rattle.std.proofs.lemmas.Bool.Decides.{nat_tests}
-use Rattle.mission.specs.declared.limits.Limits.{Limits}
+use Rattle.mission.specs.PerChannel.{Limits}
 use Rattle.registers.specs.Limiting.{limit_at, limits_with}
 use Rattle.registers.specs.Reading.{within}
 

@@ -1,14 +1,12 @@
 -- A write that is taken is read back.
-use Rattle.std.proofs.Common.{◌≡◌, ℕ, ◌-◌, ◌<◌, Bool, true, false, cond, ◌||◌, eqb, length, set, Err, sym, refl, ◌∙◌, arith, get_or-set_same}
+use Rattle.std.proofs.Common.{◌≡◌, ℕ, ◌-◌, ◌<◌, Bool, true, false, cond, ◌||◌, length, set, Err, sym, refl, ◌∙◌, arith, get_or-set_same}
 use Rattle.std.proofs.lemmas.Bool.{both_ways, cond-true, or_left, or_right}
 use Rattle.std.proofs.lemmas.Bool.Decides.{nat_tests}
 use Rattle.clock.specs.Registers.{register_at}
-use Rattle.mission.specs.Channels.{bit}
 use Rattle.refusal.specs.declared.refusal.Refusal.TheVariants.{BadValue}
 use Rattle.refusal.specs.declared.refusal.Refusal.{Refusal}
-use Rattle.registers.specs.Bytes.{delay_high, delay_low, without_clear}
 use Rattle.registers.specs.Clocking.{clock_takes, clock_with}
-use Rattle.registers.specs.Contents.{Contents, with_control, with_delay, with_limits, with_moment, with_rate, with_user}
+use Rattle.registers.specs.Contents.{Contents, with_limits, with_moment, with_user}
 use Rattle.registers.specs.Laws.{keeps_bytes}
 use Rattle.registers.specs.Limiting.{limit_at, limits_with}
 use Rattle.registers.specs.Reading.{shown, within}
@@ -43,18 +41,6 @@ module _ (c : Contents) (address value : ℕ) (running : Bool) where
       let e : limit_at (limits_with c.limits address value) address ≡ value = limits_back c.limits address value at in
       grind (arith, nat_tests)
 
-  rate_back : eqb address 0x0D ≡ true → Shows (with_rate c value)
-  rate_back at = grind (arith, nat_tests)
-
-  control_back : eqb address 0x0E ≡ true → Shows (with_control c (without_clear value) (bit 6 value))
-  control_back at = grind (arith, nat_tests)
-
-  delay_low_back : value < 256 → eqb address 0x12 ≡ true → Shows (with_delay c (delay_low c.delay value))
-  delay_low_back small at = grind (arith, nat_tests)
-
-  delay_high_back : eqb address 0x13 ≡ true → Shows (with_delay c (delay_high c.delay value))
-  delay_high_back at = grind (arith, nat_tests)
-
   user_back :
       length c.user ≡ 32 → within 0x40 0x5F address ≡ true
       → Shows (with_user c (set c.user (address - 0x40) value))
@@ -71,10 +57,10 @@ module _ (c : Contents) (address value : ℕ) (running : Bool) where
       by_arms Shows c address value (record {
         clock = clock_back ok;
         temperature = λ at. limit_back (or_left _ _ at);
-        rate = rate_back;
-        control = control_back;
-        low = delay_low_back small;
-        high = delay_high_back;
+        rate = λ at. grind (arith, nat_tests);
+        control = λ at. grind (arith, nat_tests);
+        low = λ at. grind (arith, nat_tests);
+        high = λ at. grind (arith, nat_tests);
         status_1 = λ at. absurd (let z : ⊥ = grind (arith, nat_tests) in z);
         voltages = λ at. limit_back (or_right _ _ at);
         switches = λ at. absurd (let z : ⊥ = grind (arith, nat_tests) in z);

@@ -1,11 +1,7 @@
 -- The bytes of the control and status registers and of the start delay.
-use Rattle.std.specs.Prelude.{ℕ, ◌+◌, ◌-◌, ◌*◌, ◌/◌, ◌%◌, Bool, cond}
-use Rattle.mission.specs.Channels.{bit}
+use Rattle.std.specs.Prelude.{ℕ, ◌+◌, ◌-◌, ◌*◌, ◌/◌, ◌%◌, Bool, cond, ◌==◌}
+use Rattle.bits.specs.Bits.{bit, weight}
 use Rattle.registers.specs.Contents.{Contents}
-
--- The weight of a bit that is on, else 0.
-abbrev pub weight : Bool → ℕ → ℕ
-weight on n = cond on n 0
 
 -- Control 1 shows the enabled clear in bit 6.
 abbrev pub control_byte : Contents → ℕ
@@ -45,3 +41,7 @@ delay_low delay byte = delay / 256 * 256 + byte
 -- The start delay with another high byte.
 abbrev pub delay_high : ℕ → ℕ → ℕ
 delay_high delay byte = byte * 256 + delay % 256
+
+-- The start delay with another byte i, byte 0 the low one.
+abbrev pub delay_with : ℕ → ℕ → ℕ → ℕ
+delay_with delay i byte = cond (i == 0) (delay_low delay byte) (delay_high delay byte)

@@ -2,11 +2,7 @@
 use Rattle.std.specs.Prelude.{ℕ, Bool, true, false, List, replicate}
 use Rattle.clock.specs.declared.calendar.Moment.{Moment}
 use Rattle.clock.specs.Ticking.{first_moment}
-use Rattle.mission.specs.declared.codes.Codes.{Codes}
-use Rattle.mission.specs.declared.limits.LimitPair.{LimitPair}
-use Rattle.mission.specs.declared.limits.Limits.{Limits}
-use Rattle.registers.specs.declared.flags.FlagPair.{FlagPair}
-use Rattle.registers.specs.declared.flags.Flags.{Flags}
+use Rattle.mission.specs.PerChannel.{Codes, FlagPair, Flags, LimitPair, Limits}
 use Rattle.registers.specs.declared.registers.Registers.{Registers}
 
 -- The contents of the registers. Control 1 is held without its bit 6, which is `clear_enabled`, and

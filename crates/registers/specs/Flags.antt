@@ -1,29 +1,23 @@
 -- How limit flags are set and cleared.
-use Rattle.std.specs.Prelude.{ℕ, Bool, ◌&&◌, ◌||◌}
-use Rattle.mission.specs.Channels.{bit}
-use Rattle.mission.specs.Limits.{low_code, high_code}
-use Rattle.mission.specs.declared.channels.Channels.{Channels}
-use Rattle.mission.specs.declared.codes.Codes.{Codes}
-use Rattle.mission.specs.declared.limits.LimitPair.{LimitPair}
-use Rattle.mission.specs.declared.limits.Limits.{Limits}
-use Rattle.registers.specs.declared.flags.FlagPair.{FlagPair}
-use Rattle.registers.specs.declared.flags.Flags.{Flags}
+use Rattle.std.specs.Prelude.{ℕ, ◌&&◌, ◌||◌}
+use Rattle.bits.specs.Bits.{bit}
+use Rattle.mission.specs.Limits.{past}
+use Rattle.mission.specs.PerChannel.{Channels, Codes, FlagPair, Flags, Limits}
 
--- A low code of a channel that is on sets its low flag, and a high code its high flag. A flag that is set stays so.
-abbrev pub raised_pair : FlagPair → Bool → LimitPair → ℕ → FlagPair
-raised_pair flags on limits code = record {
-  low = flags.low || (on && low_code limits code);
-  high = flags.high || (on && high_code limits code);
-}
+-- A code that is past a limit sets the flag of that limit. A flag that is set stays so.
+abbrev pub raised_pair : FlagPair → FlagPair → FlagPair
+raised_pair flags passed = record { low = flags.low || passed.low; high = flags.high || passed.high }
 
--- The flags after the codes of one sample set.
+-- The flags after the codes of one sample set. A channel that is off sets none.
 abbrev pub raised : Flags → Channels → Limits → Codes → Flags
-raised flags channels limits codes = record {
-  temperature = raised_pair flags.temperature channels.temperature limits.temperature codes.temperature;
-  one = raised_pair flags.one channels.one limits.one codes.one;
-  two = raised_pair flags.two channels.two limits.two codes.two;
-  three = raised_pair flags.three channels.three limits.three codes.three;
-}
+raised flags channels limits codes =
+    let passed = past limits channels codes in
+    record {
+      temperature = raised_pair flags.temperature passed.temperature;
+      one = raised_pair flags.one passed.one;
+      two = raised_pair flags.two passed.two;
+      three = raised_pair flags.three passed.three;
+    }
 
 -- A written byte clears the flags at whose bits it has a 0, and sets none.
 abbrev pub kept_pair : FlagPair → ℕ → ℕ → ℕ → FlagPair

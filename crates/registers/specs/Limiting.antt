@@ -1,7 +1,6 @@
 -- The registers of the limits: 0Bh and 0Ch of temperature, 23h to 28h of the voltage channels.
 use Rattle.std.specs.Prelude.{ℕ, cond, ◌==◌}
-use Rattle.mission.specs.declared.limits.LimitPair.{LimitPair}
-use Rattle.mission.specs.declared.limits.Limits.{Limits}
+use Rattle.mission.specs.PerChannel.{LimitPair, Limits}
 
 -- The limit at an address of these.
 abbrev pub limit_at : Limits → ℕ → ℕ

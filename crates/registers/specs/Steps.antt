@@ -1,10 +1,9 @@
 -- What the recorder does to the registers besides writes.
 use Rattle.std.specs.Prelude.{◌≡◌, ◌-◌, Bool, true, false, cond}
 use Rattle.clock.specs.Ticking.{ticked}
-use Rattle.mission.specs.Channels.{bit, channels_of}
-use Rattle.mission.specs.declared.channels.Channels.{Channels}
-use Rattle.mission.specs.declared.codes.Codes.{Codes}
-use Rattle.mission.specs.declared.limits.Limits.{Limits}
+use Rattle.bits.specs.Bits.{bit}
+use Rattle.mission.specs.Channels.{channels_of}
+use Rattle.mission.specs.PerChannel.{Channels, Codes, Limits}
 use Rattle.mission.specs.declared.setting.Setting.{Setting}
 use Rattle.registers.specs.Contents.{Contents, with_cleared, with_control, with_delay, with_flags, with_latest, with_moment, with_rate}
 use Rattle.registers.specs.Flags.{raised}

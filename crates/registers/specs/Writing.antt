@@ -1,6 +1,7 @@
 -- Which writes are taken, and what they change.
 use Rattle.std.specs.Prelude.{ℕ, ◌-◌, Bool, true, cond, not, ◌&&◌, is_ok, Ok, Err, Result, ◌==◌, nat_lt, slice_set}
-use Rattle.mission.specs.Channels.{any_on, bit, channels_of}
+use Rattle.bits.specs.Bits.{bit}
+use Rattle.mission.specs.Channels.{any_on, channels_of}
 use Rattle.refusal.specs.declared.refusal.Refusal.{Refusal}
 use Rattle.refusal.specs.declared.refusal.Refusal.TheVariants.{BadValue, NoChannel, NoRule, NotCleared}
 use Rattle.registers.specs.Bytes.{delay_high, delay_low, switches_byte, without_clear}

@@ -1,10 +1,9 @@
 //! The registers.
 ghost use Rattle.std.specs.Prelude.{◌≡◌, false, length};
-ghost use Rattle.mission.specs.Channels.{bit};
+ghost use Rattle.bits.specs.Bits.{bit};
 
-use crate::flags::Flags;
 use clock::Clock;
-use mission::{Codes, Limits};
+use mission::{Codes, Flags, Limits};
 
 /// The address of the first byte of user memory.
 const USER: usize = 0x40;

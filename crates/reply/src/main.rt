@@ -4,16 +4,10 @@
 #![tactic(auto)]
 
 use hex_text::{read, write};
-use line::{Asynchronous, Line, ThreeWire, send};
+use line::{Asynchronous, Line, REPLY_BYTES, ThreeWire, WIRE_BYTES, send};
 use refusal::Refusal;
 use std::io;
 use std::io::{BufRead, BufReader, Write};
-
-/// The wire bytes of a reply on any line.
-const WIRE_BYTES: usize = 80;
-
-/// The data bytes of a reply.
-const REPLY_BYTES: usize = 32;
 
 fn main(rt: HostRuntime) -> io::Result<()> {
     for text in BufReader::new(rt.alloc(), rt.stdin())?.split(rt.alloc(), b'\n') {

@@ -1,9 +1,9 @@
 -- The laws of the roll-over store.
-use Rattle.std.proofs.Common.{◌≡◌, ℕ, ◌+◌, ◌-◌, ◌*◌, ◌/◌, ◌%◌, ◌<◌, ◌≤◌, ◌≢◌, ◌⊎◌, List, [], ◌∷◌, ◌++◌, length, get_or, drop, set, replicate, sym, refl, ap, ◌∙◌, inl, inr, append-nil, mul-le-mul_right, mod-lt, mod-eq_of_lt, div-add-mod', div-mul-le_self, add-one, arith, length-set, get_or-set_other, get_or-set_same, ext_get_or}
+use Rattle.std.proofs.Common.{◌≡◌, ℕ, ◌+◌, ◌-◌, ◌*◌, ◌/◌, ◌%◌, ◌<◌, ◌≤◌, ◌≢◌, ◌⊎◌, List, [], ◌∷◌, ◌++◌, length, get_or, set, replicate, sym, refl, ap, ◌∙◌, inl, inr, append-nil, mul-le-mul_right, mod-lt, mod-eq_of_lt, div-add-mod', div-mul-le_self, add-one, arith, length-set, get_or-set_other, get_or-set_same, ext_get_or}
 use native.Mathlib.Nat.{mod-le, add-mul-mod_self_right, lt-div-mul-add, zero-mod, suc-mod, mod-mod}
 use lib.ListN.{length-replicate, get_or-replicate, get_or-append}
 use lib.Seq.{append_snoc}
-use Rattle.std.proofs.lemmas.List.{at_drop_more, get_or_push, get_or_past, length_push}
+use Rattle.std.proofs.lemmas.List.{get_or_push, get_or_past, length_push}
 use Rattle.std.proofs.lemmas.List.FromFn.{length-map-range_with_len, get_or-map-range_with_len}
 use Rattle.std.proofs.lemmas.Bool.{cases_lt, cases_order, lt-ltb}
 use Rattle.ring.specs.Steps.{stored, advanced, stored_all, advanced_all}
@@ -18,15 +18,6 @@ apart c i n h k e =
       | inr l ↦ let p : n / c * c ≤ i / c * c = mul-le-mul_right c l in
           omega (arith, div-add-mod' i c, div-add-mod' n c)
     ]
-
--- A turn of the loop that stores several entries: what is left to store gives the rest.
-module _ {X : Type 0} (xs memory memory' : List X) (next next' i : ℕ) (x : X)
-    (h : i < length xs) (here : x ≡ get_or xs i x) (put : memory' ≡ stored memory next x) (up : next' ≡ advanced (length memory) next) where
-  pub stored_all_more : stored_all memory' next' (drop (i + 1) xs) ≡ stored_all memory next (drop i xs)
-  stored_all_more = rw (put, up) (ap (λ (y : X). stored_all memory next (y ∷ drop (i + 1) xs)) here ∙ sym (at_drop_more (stored_all memory next) xs i x h))
-
-  pub advanced_all_more : advanced_all (length memory') next' (drop (i + 1) xs) ≡ advanced_all (length memory) next (drop i xs)
-  advanced_all_more = rw (put, up, length-set memory (next % length memory) x) (sym (at_drop_more (advanced_all (length memory) next) xs i x h))
 
 module _ {X : Type 0} (c : ℕ) (blank : X) (pos : 0 < c) where
   -- One more entry.

@@ -32,3 +32,8 @@ NoOtherStands X = (c : ℕ) (blank : X) (entries memory : List X) (next : ℕ) �
 -- With no entry yet, the memory is all blank.
 abbrev pub BlankAtFirst : Type 0 → Type 0
 BlankAtFirst X = (c : ℕ) (blank : X) → ring_of c blank [] ≡ replicate c blank
+
+-- A blank memory, whose next entry goes to place 0, stands for the history with no entry.
+abbrev pub BlankStands : Type 0 → Type 0
+BlankStands X = (c : ℕ) (blank : X) (memory : List X) (next : ℕ) → 0 < c
+    → memory ≡ replicate c blank → next ≡ 0 → Stands c blank [] memory next

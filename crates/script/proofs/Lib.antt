@@ -1,4 +1,3 @@
-mod Fronts
 mod Bytes
 mod Calls
 mod Lengths

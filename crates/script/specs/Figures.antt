@@ -1,9 +1,9 @@
 -- Worked examples of lines and answers.
-use Rattle.std.specs.Prelude.{◌≡◌, true, false, [], ◌∷◌, codes}
+use Rattle.std.specs.Prelude.{◌≡◌, true, false, [], ◌∷◌, codes, decimal}
 use Rattle.hex_text.specs.Text.{text_of}
 use Rattle.script.specs.declared.answer.Answer.TheVariants.{Done, Refused, Pressed, Bad}
 use Rattle.script.specs.declared.call.Call.TheVariants.{Byte, Gap, Second, Press, Collect}
-use Rattle.script.specs.Answers.{answer_of, decimal}
+use Rattle.script.specs.Answers.{answer_of}
 use Rattle.script.specs.Lines.{line_of}
 
 -- The lines of the five calls.
@@ -12,7 +12,7 @@ Lines =
     (line_of (Byte 0x40) ≡ codes "B 40")
     × (line_of (Byte 0x5F) ≡ codes "B 5F")
     × (line_of Gap ≡ codes "G")
-    × (line_of (Second 0x7D 0x00 0x0A 0xFF) ≡ codes "S 7D 00 0A FF")
+    × (line_of (Second (record { temperature = 0x7D; one = 0x00; two = 0x0A; three = 0xFF })) ≡ codes "S 7D 00 0A FF")
     × (line_of Press ≡ codes "P")
     × (line_of Collect ≡ codes "R")
 

@@ -9,7 +9,7 @@ use Rattle.script.specs.declared.call.Call.TheVariants.{Byte, Gap, Second, Press
 abbrev pub letter_of : Call → ℕ
 letter_of (Byte byte) = 66
 letter_of Gap = 71
-letter_of (Second temperature one two three) = 83
+letter_of (Second codes) = 83
 letter_of Press = 80
 letter_of Collect = 82
 
@@ -17,7 +17,7 @@ letter_of Collect = 82
 abbrev pub bytes_of : Call → List ℕ
 bytes_of (Byte byte) = byte ∷ []
 bytes_of Gap = []
-bytes_of (Second temperature one two three) = temperature ∷ one ∷ two ∷ three ∷ []
+bytes_of (Second codes) = codes.temperature ∷ codes.one ∷ codes.two ∷ codes.three ∷ []
 bytes_of Press = []
 bytes_of Collect = []
 

@@ -1,10 +1,11 @@
 //! What comes of a line of a script.
-ghost use Rattle.std.specs.Prelude.{◌≡◌, ◌++◌, take, codes};
+ghost use Rattle.std.specs.Prelude.{◌≡◌, ◌++◌, take, codes, decimal};
 ghost use Rattle.hex_text.specs.Short.{held};
-ghost use Rattle.script.specs.Answers.{answer_of, ShortWire, decimal};
+ghost use Rattle.script.specs.Answers.{answer_of, ShortWire};
 
 use crate::typing::typed;
 use hex_text::{ShortBytes, write};
+use itoa::Buffer;
 
 /// What a recorder answers to a call, or that the line names none.
 #[derive(Clone, Copy)]
@@ -25,16 +26,9 @@ pub enum Answer<'a> {
 fn refused(number: u8) -> ShortBytes
     ensures { held result ≡ codes "no " ++ decimal number }
 {
-    let hundreds = b'0' + number / 100;
-    let tens = b'0' + number / 10 % 10;
-    let ones = b'0' + number % 10;
-    if number < 10 {
-        typed(&[b'n', b'o', b' ', ones])
-    } else if number < 100 {
-        typed(&[b'n', b'o', b' ', tens, ones])
-    } else {
-        typed(&[b'n', b'o', b' ', hundreds, tens, ones])
-    }
+    let mut text = typed(b"no ");
+    text.extend(Buffer::new().format(number).as_bytes());
+    text
 }
 
 impl Answer<'_> {

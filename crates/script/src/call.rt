@@ -5,8 +5,9 @@ ghost use Rattle.script.specs.declared.call.Call.{Call};
 ghost use Rattle.script.specs.Lines.{line_of, Says, Read};
 
 use crate::parsing::lettered;
-use crate::typing::{push_byte, typed};
-use hex_text::ShortBytes;
+use crate::typing::typed;
+use hex_text::{ShortBytes, push_spaced};
+use mission::Codes;
 
 /// A call on a recorder.
 #[derive(Clone, Copy, PartialEq, Eq, Debug)]
@@ -15,13 +16,8 @@ pub enum Call {
     Byte(u8),
     /// A gap on the cable.
     Gap,
-    /// A second passes, in which the sensors give these codes: the temperature, and channels one, two and three.
-    Second {
-        temperature: u8,
-        one: u8,
-        two: u8,
-        three: u8,
-    },
+    /// A second passes, in which the sensors give these codes.
+    Second(Codes),
     /// The button is pressed.
     Press,
     /// The waiting reply is collected.
@@ -48,21 +44,16 @@ impl Call {
         match self {
             Call::Byte(byte) => {
                 let mut text = typed(b"B");
-                push_byte(&mut text, byte);
+                push_spaced(&mut text, byte);
                 text
             }
             Call::Gap => typed(b"G"),
-            Call::Second {
-                temperature,
-                one,
-                two,
-                three,
-            } => {
+            Call::Second(codes) => {
                 let mut text = typed(b"S");
-                push_byte(&mut text, temperature);
-                push_byte(&mut text, one);
-                push_byte(&mut text, two);
-                push_byte(&mut text, three);
+                push_spaced(&mut text, codes.temperature);
+                push_spaced(&mut text, codes.one);
+                push_spaced(&mut text, codes.two);
+                push_spaced(&mut text, codes.three);
                 text
             }
             Call::Press => typed(b"P"),

@@ -1,23 +1,11 @@
 //! How a line is taken apart.
-ghost use Rattle.std.specs.Prelude.{◌≡◌, ◌∷◌, MatchOption};
+ghost use Rattle.std.specs.Prelude.{◌≡◌, ◌∷◌};
 ghost use Rattle.script.specs.Lines.{Read};
-ghost use Rattle.script.specs.Parsing.{Begins, NoByte, ended};
+ghost use Rattle.script.specs.Parsing.{ended};
 
 use crate::call::Call;
-use hex_text::byte;
-
-/// The byte at the front of a text, after a space, and what stands behind it.
-fn next(text: &[u8]) -> Option<(u8, &[u8])>
-    ensures { MatchOption result (NoByte text.now) (λ p. Begins text.now p.0 p.1.now) }
-{
-    let [space, high, low, rest @ ..] = text else {
-        return None;
-    };
-    if *space != b' ' {
-        return None;
-    }
-    Some((byte(*high, *low)?, rest))
-}
+use hex_text::next_spaced;
+use mission::Codes;
 
 /// The call whose line is read to its end: nothing may follow.
 fn alone(call: Call, rest: &[u8]) -> Option<Call>
@@ -30,7 +18,7 @@ fn alone(call: Call, rest: &[u8]) -> Option<Call>
 fn byte_call(text: &[u8]) -> Option<Call>
     ensures { Read (66 ∷ text.now) result }
 {
-    let (byte, rest) = next(text)?;
+    let (byte, rest) = next_spaced(text)?;
     alone(Call::Byte(byte), rest)
 }
 
@@ -38,19 +26,17 @@ fn byte_call(text: &[u8]) -> Option<Call>
 fn second_call(text: &[u8]) -> Option<Call>
     ensures { Read (83 ∷ text.now) result }
 {
-    let (temperature, text) = next(text)?;
-    let (one, text) = next(text)?;
-    let (two, text) = next(text)?;
-    let (three, text) = next(text)?;
-    alone(
-        Call::Second {
-            temperature,
-            one,
-            two,
-            three,
-        },
-        text,
-    )
+    let (temperature, text) = next_spaced(text)?;
+    let (one, text) = next_spaced(text)?;
+    let (two, text) = next_spaced(text)?;
+    let (three, text) = next_spaced(text)?;
+    let codes = Codes {
+        temperature,
+        one,
+        two,
+        three,
+    };
+    alone(Call::Second(codes), text)
 }
 
 /// The call that a letter and the text behind it name.

@@ -10,19 +10,13 @@ use crate::record::AlarmRecord;
 /// How many sets a full piece has.
 const PIECE_SETS: u8 = 255;
 
-/// A record that holds no piece.
-const UNUSED: AlarmRecord = AlarmRecord {
-    stamp: 0,
-    length: 0,
-};
-
 impl AlarmTable {
     /// A table that has kept nothing, as after a clear.
     pub fn new() -> AlarmTable
         ensures { held_in result ≡ held_of 6 [] }
     {
         AlarmTable {
-            records: [UNUSED; ALARM_RECORDS],
+            records: [AlarmRecord::default(); ALARM_RECORDS],
             used: 0,
             growing: false,
         }
@@ -39,8 +33,9 @@ impl AlarmTable {
         if !past {
             self.growing = false;
         } else if self.growing {
-            self.records[used - 1].length += 1;
-            self.growing = self.records[used - 1].length < PIECE_SETS;
+            let last = &mut self.records[used - 1];
+            last.length += 1;
+            self.growing = last.length < PIECE_SETS;
         } else if used < ALARM_RECORDS {
             self.records[used] = AlarmRecord { stamp, length: 1 };
             self.used += 1;
@@ -66,10 +61,6 @@ impl AlarmTable {
     pub fn record(&self, i: usize) -> Option<AlarmRecord>
         ensures { result ≡ (if nat_lt i 6 then Some (slice_index_or (held_in self.now).records i blank) else None) }
     {
-        if i < ALARM_RECORDS {
-            Some(self.records[i])
-        } else {
-            None
-        }
+        self.records.get(i).copied()
     }
 }

@@ -5,7 +5,6 @@ ghost use Rattle.clock.specs.Ticking.{rolls_over, ticked, weekday_after};
 
 use crate::calendar::LAST_SECOND;
 use crate::clock::Clock;
-use crate::ticking::next_second;
 
 impl Clock {
     /// Goes one second on, and answers whether the seconds rolled over from 59 to 00.
@@ -17,7 +16,7 @@ impl Clock {
         ensures sole { Sole self.new.moment }
     {
         let rollover = self.moment.second == LAST_SECOND;
-        self.moment = next_second(self.moment);
+        *self = self.next_second();
         rollover
     }
 }

@@ -1,10 +1,10 @@
 //! What a store does.
-ghost use Rattle.std.specs.Prelude.{◌≡◌, ◌≤◌, length};
-ghost use Rattle.line.specs.Collecting.{over};
+ghost use Rattle.std.specs.Prelude.{◌≡◌};
 ghost use Rattle.line.specs.Reply.{emptied, put_answer, put_after, close_after};
 ghost use Rattle.line.specs.Store.{stored};
 
-use super::{REPLY_BYTES, Store};
+use super::Store;
+use arrayvec::ArrayVec;
 use refusal::Refusal;
 
 impl Store {
@@ -13,8 +13,7 @@ impl Store {
         ensures { stored result ≡ emptied }
     {
         Store {
-            bytes: [0; REPLY_BYTES],
-            count: 0,
+            bytes: ArrayVec::new(),
             waiting: false,
         }
     }
@@ -22,35 +21,27 @@ impl Store {
     pub(crate) fn clear(&mut self)
         ensures { stored self.new ≡ emptied }
     {
-        self.count = 0;
         self.waiting = false;
+        self.bytes.clear();
     }
 
     pub(crate) fn push(&mut self, byte: u8) -> Result<(), Refusal>
         ensures answer { result ≡ put_answer (stored self.old) }
         ensures after { stored self.new ≡ put_after (stored self.old) byte }
     {
-        if self.waiting || self.count >= REPLY_BYTES {
+        if self.waiting || self.bytes.is_full() {
             return Err(Refusal::LineFull);
         }
-        self.bytes[self.count] = byte;
-        self.count += 1;
+        self.bytes.push(byte);
         Ok(())
     }
 
     pub(crate) fn finish(&mut self)
         ensures { stored self.new ≡ close_after (stored self.old) }
     {
-        if self.count > 0 {
+        if !self.bytes.is_empty() {
             self.waiting = true;
         }
-    }
-
-    pub(crate) fn len(&self) -> usize
-        ensures is { result ≡ length (stored self.now).bytes }
-        ensures few { result ≤ 32 }
-    {
-        self.count
     }
 
     pub(crate) fn waits(&self) -> bool
@@ -63,15 +54,6 @@ impl Store {
     pub(crate) fn front(&self) -> &[u8]
         ensures { result.now ≡ (stored self.now).bytes }
     {
-        &self.bytes[0..self.count]
+        self.bytes.as_slice()
     }
-}
-
-/// Writes `from` over the front of `buffer`.
-pub(crate) fn write_front(buffer: &mut [u8], from: &[u8])
-    requires { length from.now ≤ length buffer.old }
-    ensures { buffer.new ≡ over from.now buffer.old }
-{
-    let n = from.len();
-    buffer[0..n].copy_from_slice(from);
 }

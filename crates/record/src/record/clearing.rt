@@ -9,6 +9,7 @@ use alarm::AlarmTable;
 use counter::Counter;
 use histogram::{TemperatureHistogram, VoltageHistogram};
 use memory::Log;
+use mission::Sides;
 
 impl Record {
     /// A record of no set.
@@ -23,10 +24,14 @@ impl Record {
             log: Log::new(),
             temperatures: TemperatureHistogram::new(),
             voltages: VoltageHistogram::new(),
-            temperature_low: AlarmTable::new(),
-            temperature_high: AlarmTable::new(),
-            one_low: AlarmTable::new(),
-            one_high: AlarmTable::new(),
+            temperature_alarms: Sides {
+                low: AlarmTable::new(),
+                high: AlarmTable::new(),
+            },
+            one_alarms: Sides {
+                low: AlarmTable::new(),
+                high: AlarmTable::new(),
+            },
         }
     }
 

@@ -42,13 +42,16 @@ impl Record {
         match address {
             STAMP..=0x19 => self.stamp[(address - STAMP) as usize],
             CURRENT..=0x1C => current_byte(self.current, address - CURRENT),
-            TEMPERATURE_LOW..=0x237 => alarm_byte(&self.temperature_low, address - TEMPERATURE_LOW),
+            TEMPERATURE_LOW..=0x237 => alarm_byte(
+                &self.temperature_alarms.low,
+                address - TEMPERATURE_LOW,
+            ),
             TEMPERATURE_HIGH..=0x24F => alarm_byte(
-                &self.temperature_high,
+                &self.temperature_alarms.high,
                 address - TEMPERATURE_HIGH,
             ),
-            ONE_LOW..=0x267 => alarm_byte(&self.one_low, address - ONE_LOW),
-            ONE_HIGH..=0x27F => alarm_byte(&self.one_high, address - ONE_HIGH),
+            ONE_LOW..=0x267 => alarm_byte(&self.one_alarms.low, address - ONE_LOW),
+            ONE_HIGH..=0x27F => alarm_byte(&self.one_alarms.high, address - ONE_HIGH),
             TEMPERATURES..=0x87D => bin_byte(self.temperatures.bins(), address - TEMPERATURES),
             VOLTAGES..=0x8FF => bin_byte(self.voltages.bins(), address - VOLTAGES),
             LOG..=0x17FF => log_byte(log, address - LOG),
@@ -97,8 +100,5 @@ fn bin_byte(bins: &[u16], i: u16) -> u8
 fn log_byte(log: &[u8], i: u16) -> u8
     ensures { result ≡ slice_index log.now i }
 {
-    match log.get(i as usize) {
-        Some(byte) => *byte,
-        None => 0,
-    }
+    log.get(i as usize).copied().unwrap_or(0)
 }

@@ -10,6 +10,7 @@ ghost use Rattle.std.specs.Prelude.{◌≡◌, ℕ, true, List, length};
 
 use crate::record::Record;
 use alarm::AlarmTable;
+use mission::Sides;
 
 impl Record {
     /// How many sets were taken since the last clear, held at FFFFFFh.
@@ -23,7 +24,7 @@ impl Record {
 
     /// How many bytes of the log hold rows.
     pub fn log_used(&self) -> usize
-        ensures value { result ≡ used_of self.now.log.next self.now.log.full }
+        ensures value { result ≡ used_of self.now.log.ring.next self.now.log.full }
         ensures law { (rules : Rules) (sets : List SampleSet) (memory : List ℕ) → any_on rules.channels ≡ true
             → seen self.now memory ≡ record_of rules sets → result ≡ used_by (width_by rules) (length sets) }
     {
@@ -44,31 +45,25 @@ impl Record {
         self.voltages.bins()
     }
 
-    /// The alarm records of low temperatures.
-    pub fn temperature_low(&self) -> &AlarmTable
-        ensures { held_in result.now ≡ held_in self.now.temperature_low }
+    /// The alarm records of low and of high temperatures.
+    pub fn temperature_alarms(&self) -> Sides<&AlarmTable>
+        ensures low { held_in result.low.now ≡ held_in self.now.temperature_alarms.low }
+        ensures high { held_in result.high.now ≡ held_in self.now.temperature_alarms.high }
     {
-        &self.temperature_low
+        Sides {
+            low: &self.temperature_alarms.low,
+            high: &self.temperature_alarms.high,
+        }
     }
 
-    /// The alarm records of high temperatures.
-    pub fn temperature_high(&self) -> &AlarmTable
-        ensures { held_in result.now ≡ held_in self.now.temperature_high }
+    /// The alarm records of low and of high voltages of channel 1.
+    pub fn one_alarms(&self) -> Sides<&AlarmTable>
+        ensures low { held_in result.low.now ≡ held_in self.now.one_alarms.low }
+        ensures high { held_in result.high.now ≡ held_in self.now.one_alarms.high }
     {
-        &self.temperature_high
-    }
-
-    /// The alarm records of low voltages of channel 1.
-    pub fn one_low(&self) -> &AlarmTable
-        ensures { held_in result.now ≡ held_in self.now.one_low }
-    {
-        &self.one_low
-    }
-
-    /// The alarm records of high voltages of channel 1.
-    pub fn one_high(&self) -> &AlarmTable
-        ensures { held_in result.now ≡ held_in self.now.one_high }
-    {
-        &self.one_high
+        Sides {
+            low: &self.one_alarms.low,
+            high: &self.one_alarms.high,
+        }
     }
 }

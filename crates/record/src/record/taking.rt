@@ -1,17 +1,18 @@
 //! One more sample set.
+ghost use Rattle.arrayvec.specs.ArrayVec.{array_vec_len};
 ghost use Rattle.mission.specs.Channels.{any_on};
-ghost use Rattle.mission.specs.Limits.{low_code, high_code};
 ghost use Rattle.record.specs.Contents.{seen};
 ghost use Rattle.record.specs.Histories.{Reads, record_of};
 ghost use Rattle.record.specs.Sets.{SampleSet, if_on, row_with, rules_of, sampled, stamp_at};
 ghost use Rattle.record.specs.Taking.{binned, taken};
-ghost use Rattle.std.specs.Prelude.{◌≡◌, ◌+◌, ◌<◌, ◌≤◌, true, ◌&&◌, List, [], ◌∷◌, ◌++◌, take, if◌then◌else◌, nat_eq, nat_le};
+ghost use Rattle.std.specs.Prelude.{◌≡◌, ◌+◌, ◌<◌, ◌≤◌, true, ◌&&◌, List, [], ◌∷◌, ◌++◌, if◌then◌else◌, nat_eq, nat_le};
 
 use crate::record::Record;
+use arrayvec::ArrayVec;
 use clock::{Clock, ClockRegister};
 use histogram::{TemperatureCode, TemperatureHistogram, VoltageCode, VoltageHistogram};
 use memory::Row;
-use mission::{Channels, Codes, LimitPair, Setting};
+use mission::{Channels, Codes, Setting};
 
 impl Record {
     /// Records one more set: the codes of this second, at the clock's moment, by the mission's setting.
@@ -24,20 +25,20 @@ impl Record {
             → Reads (rules_of setting.now) (sets ++ sampled codes clock.now.moment ∷ []) log.new }
     {
         let channels = setting.channels();
-        let limits = setting.limits();
+        let past = setting.limits().past(channels, codes);
         let row = row_of(channels, codes);
-        let cold = is_low(channels.temperature, &limits.temperature, codes.temperature);
-        let hot = is_high(channels.temperature, &limits.temperature, codes.temperature);
-        let one_low = is_low(channels.one, &limits.one, codes.one);
-        let one_high = is_high(channels.one, &limits.one, codes.one);
         self.stamp = self.stamp_after(clock);
         self.current.up();
         let number = self.current.value();
         self.log.write(log, row, setting.roll_over());
-        self.temperature_low.note(number, cold);
-        self.temperature_high.note(number, hot);
-        self.one_low.note(number, one_low);
-        self.one_high.note(number, one_high);
+        self.temperature_alarms
+            .low
+            .note(number, past.temperature.low);
+        self.temperature_alarms
+            .high
+            .note(number, past.temperature.high);
+        self.one_alarms.low.note(number, past.one.low);
+        self.one_alarms.high.note(number, past.one.high);
         count_voltage(&mut self.voltages, channels.one, codes.one);
         count_temperature(
             &mut self.temperatures,
@@ -71,31 +72,27 @@ fn stamp_of(clock: &Clock) -> [u8; 5]
     ]
 }
 
-/// Puts the code of a channel that is on after the first `count` bytes, and gives how many there are then.
-fn put_if_on(bytes: &mut [u8; 4], count: usize, on: bool, code: u8) -> usize
-    requires { count < 4 }
-    ensures front { take result bytes.new ≡ take count bytes.old ++ if_on on code }
-    ensures more { result ≤ count + 1 }
-{
-    if on {
-        bytes[count] = code;
-        count + 1
-    } else {
-        count
-    }
-}
-
 /// The row of the codes of the channels that are on.
 fn row_of(channels: Channels, codes: Codes) -> Row
     requires { any_on channels ≡ true }
     ensures { result ≡ row_with channels codes }
 {
-    let mut bytes = [0; 4];
-    let count = put_if_on(&mut bytes, 0, channels.temperature, codes.temperature);
-    let count = put_if_on(&mut bytes, count, channels.one, codes.one);
-    let count = put_if_on(&mut bytes, count, channels.two, codes.two);
-    let count = put_if_on(&mut bytes, count, channels.three, codes.three);
-    Row::of_codes(&bytes[0..count]).unwrap()
+    let mut row = ArrayVec::new();
+    push_if_on(&mut row, channels.temperature, codes.temperature);
+    push_if_on(&mut row, channels.one, codes.one);
+    push_if_on(&mut row, channels.two, codes.two);
+    push_if_on(&mut row, channels.three, codes.three);
+    Row::of_codes(row.as_slice()).unwrap()
+}
+
+/// Adds the code of a channel, if it is on.
+fn push_if_on(row: &mut ArrayVec<u8, 4>, on: bool, code: u8)
+    requires { array_vec_len row.old < 4 }
+    ensures { row.new.items ≡ row.old.items ++ if_on on code }
+{
+    if on {
+        row.push(code);
+    }
 }
 
 /// Counts the temperature's code, if the channel is on and the code is a temperature.
@@ -103,7 +100,7 @@ fn count_temperature(bins: &mut TemperatureHistogram, on: bool, code: u8)
     ensures { bins.new.bins ≡ binned (on && nat_le code 250) bins.old.bins code }
 {
     if on {
-        if let Some(reading) = TemperatureCode::new(code) {
+        if let Ok(reading) = TemperatureCode::try_from(code) {
             bins.count(reading);
         }
     }
@@ -114,20 +111,6 @@ fn count_voltage(bins: &mut VoltageHistogram, on: bool, code: u8)
     ensures { bins.new.bins ≡ binned on bins.old.bins code }
 {
     if on {
-        bins.count(VoltageCode::new(code));
+        bins.count(VoltageCode::from(code));
     }
-}
-
-/// Whether a channel is on and its code at or past the low limit.
-fn is_low(on: bool, limits: &LimitPair, code: u8) -> bool
-    ensures { result ≡ (on && low_code limits.now code) }
-{
-    on && limits.is_low(code)
-}
-
-/// Whether a channel is on and its code at or past the high limit.
-fn is_high(on: bool, limits: &LimitPair, code: u8) -> bool
-    ensures { result ≡ (on && high_code limits.now code) }
-{
-    on && limits.is_high(code)
 }

@@ -11,7 +11,7 @@ use counter::Counter;
 use memory::{EventKind, Journal, JournalEntry};
 use record::Record;
 use refusal::Refusal;
-use registers::Registers;
+use registers::{Registers, SERIAL_BYTES};
 
 impl Chip {
     /// Empties the record and what goes with it. A mission in progress stops, and the journal notes one event.
@@ -55,7 +55,7 @@ impl Chip {
     }
 
     /// A chip as it is made, with nothing recorded.
-    pub(crate) fn new(serial: [u8; 8]) -> Chip
+    pub(crate) fn new(serial: [u8; SERIAL_BYTES]) -> Chip
         ensures { (log : List ℕ) (journal : List JournalEntry) → contents result log journal ≡ made_over serial log journal }
     {
         let control = Control {

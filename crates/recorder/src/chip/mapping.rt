@@ -1,10 +1,11 @@
 //! The address map of a chip, and the pages that are read from it.
-ghost use Rattle.std.specs.Prelude.{◌≡◌, ◌≤◌, [], length, take};
+ghost use Rattle.std.specs.Prelude.{◌≡◌, []};
 ghost use Rattle.registers.specs.Reading.{within};
 ghost use Rattle.recorder.specs.Contents.{contents};
-ghost use Rattle.recorder.specs.Map.{in_record, map_at, page_from, page_rest};
+ghost use Rattle.recorder.specs.Map.{in_record, map_at, page_from};
 
 use crate::chip::Chip;
+use arrayvec::ArrayVec;
 
 /// The first address of Total.
 const TOTAL: u16 = 0x1D;
@@ -13,7 +14,10 @@ const TOTAL: u16 = 0x1D;
 const TOTAL_END: u16 = 0x1F;
 
 /// How many bytes a page has.
-pub(crate) const PAGE_BYTES: usize = 32;
+const PAGE_BYTES: usize = 32;
+
+/// How many addresses a page has.
+const PAGE_SIZE: u16 = PAGE_BYTES as u16;
 
 /// Whether Total stands at the address.
 fn is_in_total(address: u16) -> bool
@@ -26,10 +30,10 @@ fn is_in_total(address: u16) -> bool
 fn is_in_record(address: u16) -> bool
     ensures { result ≡ in_record address }
 {
-    match address {
-        0x15..=0x1C | 0x220..=0x27F | 0x800..=0x8FF | 0x1000..=0x17FF => true,
-        _ => false,
-    }
+    matches!(
+        address,
+        0x15..=0x1C | 0x220..=0x27F | 0x800..=0x8FF | 0x1000..=0x17FF
+    )
 }
 
 impl Chip {
@@ -48,16 +52,15 @@ impl Chip {
         }
     }
 
-    /// Fills the page's front with the bytes from the address to the end of its page, and answers how many there are.
-    pub(crate) fn read_page(&self, log: &[u8], address: u16, page: &mut [u8; PAGE_BYTES]) -> usize
-        ensures page { take result page.new ≡ page_from (contents self.now log.now []) address }
-        ensures count { result ≡ page_rest address }
-        ensures few { result ≤ 32 }
+    /// The bytes from the address to the end of its page.
+    pub(crate) fn page(&self, log: &[u8], address: u16) -> ArrayVec<u8, PAGE_BYTES>
+        ensures { result.items ≡ page_from (contents self.now log.now []) address }
     {
-        let count = PAGE_BYTES - address as usize % PAGE_BYTES;
-        for i in 0..count {
-            page[i] = self.read(log, address + i as u16);
+        let last = address - address % PAGE_SIZE + (PAGE_SIZE - 1);
+        let mut page = ArrayVec::new();
+        for place in address..=last {
+            page.push(self.read(log, place));
         }
-        count
+        page
     }
 }

@@ -6,7 +6,7 @@ ghost use Rattle.registers.specs.Contents.{contents_of};
 ghost use Rattle.recorder.specs.Contents.{contents};
 ghost use Rattle.recorder.specs.Seconds.{passed, rolled, sampled, served_registers};
 
-use crate::chip::{Chip, Control, Mission};
+use crate::chip::{Chip, Control};
 use mission::{Codes, Setting};
 
 impl Control {
@@ -44,14 +44,12 @@ impl Chip {
     fn roll(&mut self, log: &mut [u8], codes: Codes)
         ensures { (journal : List JournalEntry) → contents self.new log.new journal ≡ rolled (contents self.old log.old journal) codes }
     {
-        if let Some(mission) = self.control.mission {
-            let setting = mission.setting;
-            let mut schedule = mission.schedule;
-            let due = schedule.rollover();
+        if let Some(mut mission) = self.control.mission {
+            let due = mission.schedule.rollover();
             self.control.registers.count_delay_down();
-            self.control.mission = Some(Mission { setting, schedule });
+            self.control.mission = Some(mission);
             if due {
-                self.sample(log, &setting, codes);
+                self.sample(log, &mission.setting, codes);
             }
         }
     }

@@ -1,7 +1,8 @@
 //! The calls on a recorder. Each that takes memories is lent a log of 2,048 bytes and a journal of 16 entries, and refuses others.
-ghost use Rattle.std.specs.Prelude.{◌≡◌, ℕ, Bool, true, false, ◌&&◌, List, length, is_ok, if◌then◌else◌, MatchResult, ◌==◌};
+ghost use Rattle.std.specs.Prelude.{◌≡◌, ℕ, Bool, true, false, List, length, is_ok, if◌then◌else◌, MatchResult};
 ghost use Rattle.line.specs.Collecting.{collect_answer, over};
 ghost use Rattle.line.specs.Reply.{emptied};
+ghost use Rattle.memory.specs.Serving.{serves};
 ghost use Rattle.memory.specs.declared.event.JournalEntry.{JournalEntry};
 ghost use Rattle.recorder.specs.Seen.{seen};
 ghost use Rattle.recorder.specs.State.{byte_answer, byte_after, gap_after, heard_after, heard_answer, heard_by, made_state, press_answer, press_after, second_answer, second_after, state};
@@ -9,20 +10,12 @@ ghost use Rattle.recorder.specs.State.{byte_answer, byte_after, gap_after, heard
 use crate::chip::Chip;
 use crate::recorder::{NotMade, Recorder};
 use command::Heard;
+use histogram::TemperatureCode;
 use line::Line;
-use memory::{Journal, JournalEntry, Log};
+use memory::{JournalEntry, can_serve};
 use mission::Codes;
 use refusal::Refusal;
-
-/// The highest code of a temperature.
-const TOP_TEMPERATURE: u8 = 250;
-
-/// Whether the memories have the right lengths.
-fn can_serve(log: &[u8], journal: &[JournalEntry]) -> bool
-    ensures { result ≡ (length log.now == 2048 && length journal.now == 16) }
-{
-    log.len() == Log::BYTES && journal.len() == Journal::ENTRIES
-}
+use registers::SERIAL_BYTES;
 
 impl<L: Line> Recorder<L> {
     /// A recorder with this serial number, over the line. Both memories are emptied, and the line is opened.
@@ -30,11 +23,11 @@ impl<L: Line> Recorder<L> {
         log: &mut [u8],
         journal: &mut [JournalEntry],
         mut line: L,
-        serial: [u8; 8],
+        serial: [u8; SERIAL_BYTES],
     ) -> Result<Recorder<L>, NotMade<L>>
-        ensures { MatchResult result (λ k. ((length log.old == 2048 && length journal.old == 16) ≡ true) × (seen L.meaning k log.new journal.new ≡ made_state serial)) (λ n. ((length log.old == 2048 && length journal.old == 16) ≡ false) × (n.refusal ≡ Refusal.MemoryLength) × (n.line ≡ line) × (log.new ≡ log.old) × (journal.new ≡ journal.old)) }
+        ensures { MatchResult result (λ k. (serves (length log.old) (length journal.old) ≡ true) × (seen L.meaning k log.new journal.new ≡ made_state serial)) (λ n. (serves (length log.old) (length journal.old) ≡ false) × (n.refusal ≡ Refusal.MemoryLength) × (n.line ≡ line) × (log.new ≡ log.old) × (journal.new ≡ journal.old)) }
     {
-        if !can_serve(log, journal) {
+        if !can_serve(log.len(), journal.len()) {
             let refusal = Refusal::MemoryLength;
             return Err(NotMade { refusal, line });
         }
@@ -54,9 +47,9 @@ impl<L: Line> Recorder<L> {
     ) -> Result<(), Refusal>
         ensures answer { result ≡ byte_answer (seen L.meaning self.old log.old journal.old) byte }
         ensures after { seen L.meaning self.new log.new journal.new ≡ byte_after (seen L.meaning self.old log.old journal.old) byte }
-        ensures kept { (length log.old == 2048 && length journal.old == 16) ≡ false → (self.new ≡ self.old) × (log.new ≡ log.old) × (journal.new ≡ journal.old) }
+        ensures kept { serves (length log.old) (length journal.old) ≡ false → (self.new ≡ self.old) × (log.new ≡ log.old) × (journal.new ≡ journal.old) }
     {
-        if !can_serve(log, journal) {
+        if !can_serve(log.len(), journal.len()) {
             return Err(Refusal::MemoryLength);
         }
         if self.line.waits() {
@@ -81,13 +74,13 @@ impl<L: Line> Recorder<L> {
     ) -> Result<(), Refusal>
         ensures answer { result ≡ second_answer (seen L.meaning self.old log.old journal.old) codes }
         ensures after { seen L.meaning self.new log.new journal.new ≡ second_after (seen L.meaning self.old log.old journal.old) codes }
-        ensures kept { (length log.old == 2048 && length journal.old == 16) ≡ false → (self.new ≡ self.old) × (log.new ≡ log.old) × (journal.new ≡ journal.old) }
+        ensures kept { serves (length log.old) (length journal.old) ≡ false → (self.new ≡ self.old) × (log.new ≡ log.old) × (journal.new ≡ journal.old) }
     {
-        if !can_serve(log, journal) {
+        if !can_serve(log.len(), journal.len()) {
             return Err(Refusal::MemoryLength);
         }
         let code = codes.temperature;
-        if code > TOP_TEMPERATURE {
+        if code > TemperatureCode::TOP {
             return Err(Refusal::BadTemperature { code });
         }
         self.chip.pass(log, codes);
@@ -98,9 +91,9 @@ impl<L: Line> Recorder<L> {
     pub fn press(&mut self, log: &mut [u8], journal: &mut [JournalEntry]) -> Result<bool, Refusal>
         ensures answer { result ≡ press_answer (seen L.meaning self.old log.old journal.old) }
         ensures after { seen L.meaning self.new log.new journal.new ≡ press_after (seen L.meaning self.old log.old journal.old) }
-        ensures kept { (length log.old == 2048 && length journal.old == 16) ≡ false → (self.new ≡ self.old) × (log.new ≡ log.old) × (journal.new ≡ journal.old) }
+        ensures kept { serves (length log.old) (length journal.old) ≡ false → (self.new ≡ self.old) × (log.new ≡ log.old) × (journal.new ≡ journal.old) }
     {
-        if !can_serve(log, journal) {
+        if !can_serve(log.len(), journal.len()) {
             return Err(Refusal::MemoryLength);
         }
         Ok(self.chip.control.press(journal))

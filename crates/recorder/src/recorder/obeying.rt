@@ -7,7 +7,6 @@ ghost use Rattle.recorder.specs.Seen.{seen};
 ghost use Rattle.recorder.specs.State.{obey_answer, obeyed};
 
 use crate::chip::Chip;
-use crate::chip::mapping::PAGE_BYTES;
 use crate::recorder::Recorder;
 use command::Command;
 use line::{Line, send};
@@ -46,7 +45,5 @@ fn reply<L: Line>(line: &mut L, chip: &Chip, log: &[u8], address: u16) -> Result
     if address >= MAP_END {
         return Err(Refusal::OutsideMap { address });
     }
-    let mut page = [0; PAGE_BYTES];
-    let count = chip.read_page(log, address, &mut page);
-    send(line, &page[0..count])
+    send(line, chip.page(log, address).as_slice())
 }

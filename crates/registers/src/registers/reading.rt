@@ -5,9 +5,9 @@ ghost use Rattle.registers.specs.Contents.{contents_of};
 ghost use Rattle.registers.specs.Reading.{shown};
 
 use super::{Registers, SERIAL, USER};
-use crate::bits::weight;
 use crate::clocking::clock_at;
 use crate::limiting::limit_at;
+use bits::weight;
 
 impl Registers {
     /// The byte that the register at the address shows, where `running` says whether a mission is in

@@ -5,18 +5,9 @@ ghost use Rattle.registers.specs.Contents.{contents_of, new_contents, with_ready
 ghost use Rattle.registers.specs.Steps.{clear_after, count_down_after, latch_after, latched, raise_after, start_after, take_enable_after, tick_after};
 
 use super::{Registers, SERIAL_BYTES, USER_BYTES};
-use crate::flags::{FlagPair, Flags};
+use crate::flags::raised;
 use clock::Clock;
-use mission::{Channels, Codes, LimitPair, Limits};
-
-/// Limits of 0.
-const ZERO_PAIR: LimitPair = LimitPair { low: 0, high: 0 };
-
-/// Flags that are not set.
-const NO_FLAGS: FlagPair = FlagPair {
-    low: false,
-    high: false,
-};
+use mission::{Channels, Codes, Flags, Limits};
 
 /// Control 2 with every channel off.
 const ALL_OFF: u8 = 0x01;
@@ -31,30 +22,15 @@ impl Registers {
     {
         Registers {
             clock: Clock::new(),
-            limits: Limits {
-                temperature: ZERO_PAIR,
-                one: ZERO_PAIR,
-                two: ZERO_PAIR,
-                three: ZERO_PAIR,
-            },
+            limits: Limits::default(),
             rate: 0,
             control: 0,
             clear_enabled: false,
             delay: 0,
-            latest: Codes {
-                temperature: 0,
-                one: 0,
-                two: 0,
-                three: 0,
-            },
+            latest: Codes::default(),
             ready: false,
             cleared: true,
-            flags: Flags {
-                temperature: NO_FLAGS,
-                one: NO_FLAGS,
-                two: NO_FLAGS,
-                three: NO_FLAGS,
-            },
+            flags: Flags::default(),
             switches: ALL_OFF,
             user: [0; USER_BYTES],
             serial,
@@ -80,7 +56,7 @@ impl Registers {
     pub fn raise_flags(&mut self, channels: Channels, limits: &Limits, codes: Codes)
         ensures { contents_of self.new ≡ raise_after (contents_of self.old) channels limits.now codes }
     {
-        self.flags = self.flags.raised(channels, limits, codes);
+        self.flags = raised(self.flags, channels, limits, codes);
     }
 
     /// Counts the start delay down by one, to 0 at least.
@@ -95,9 +71,7 @@ impl Registers {
         ensures answer { result ≡ (contents_of self.old).clear_enabled }
         ensures after { contents_of self.new ≡ take_enable_after (contents_of self.old) }
     {
-        let enabled = self.clear_enabled;
-        self.clear_enabled = false;
-        enabled
+        std::mem::take(&mut self.clear_enabled)
     }
 
     /// Says whether data is ready.

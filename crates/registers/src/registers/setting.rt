@@ -5,7 +5,7 @@ ghost use Rattle.registers.specs.Contents.{contents_of};
 ghost use Rattle.registers.specs.Steps.{by_button, channels_on, SetBy};
 
 use super::Registers;
-use crate::bits::is_set;
+use bits::is_set;
 use clock::Clock;
 use mission::{Channels, Setting};
 

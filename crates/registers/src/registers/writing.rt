@@ -1,15 +1,22 @@
 //! Writes of registers.
-ghost use Rattle.std.specs.Prelude.{◌≡◌};
-ghost use Rattle.registers.specs.Bytes.{delay_high, delay_low, switches_byte, without_clear};
+ghost use Rattle.std.specs.Prelude.{◌≡◌, ◌<◌};
+ghost use Rattle.registers.specs.Bytes.{delay_with, switches_byte, without_clear};
 ghost use Rattle.registers.specs.Contents.{contents_of};
 ghost use Rattle.registers.specs.Laws.{OthersShow, ReadsBack};
 ghost use Rattle.registers.specs.Writing.{stops, stored, taken, write_after, write_answer};
 
 use super::{Registers, USER};
-use crate::bits::{is_set, weight};
-use crate::clocking::{clock_takes, clock_with};
+use crate::clocking::clock_written;
+use crate::flags::{kept_by_status_1, kept_by_status_2};
 use crate::limiting::limits_with;
+use bits::{is_set, weight};
 use refusal::Refusal;
+
+/// The address of the low byte of the start delay.
+const DELAY: u8 = 0x12;
+
+/// The address of the high byte of the start delay.
+const DELAY_END: u8 = 0x13;
 
 /// The bit of Control 1 that must be 0.
 const ZERO_OF_CONTROL_1: u32 = 5;
@@ -53,9 +60,9 @@ impl Registers {
         ensures { result ≡ write_answer (contents_of self.now) address value }
     {
         match address {
-            0x00..=0x06 if !clock_takes(self.clock, address, value) => Err(Refusal::BadValue {
-                address,
-            }),
+            0x00..=0x06 if clock_written(self.clock, address, value).is_none() => {
+                Err(Refusal::BadValue { address })
+            }
             0x0D if !self.cleared => Err(Refusal::NotCleared),
             0x0D if value != 0 && !self.channels().any() => Err(Refusal::NoChannel),
             0x0E if is_set(value, ZERO_OF_CONTROL_1) => Err(Refusal::BadValue { address }),
@@ -70,18 +77,19 @@ impl Registers {
         ensures { contents_of self.new ≡ stored (contents_of self.old) address value }
     {
         match address {
-            0x00..=0x06 => self.clock = clock_with(self.clock, address, value),
+            0x00..=0x06 => {
+                self.clock = clock_written(self.clock, address, value).unwrap_or(self.clock);
+            }
             0x0B | 0x0C | 0x23..=0x28 => self.limits = limits_with(self.limits, address, value),
             0x0D => self.rate = value,
             0x0E => {
                 self.clear_enabled = is_set(value, CLEAR_ENABLE);
                 self.control = without_clear(value);
             }
-            0x12 => self.delay = delay_low(self.delay, value),
-            0x13 => self.delay = delay_high(self.delay, value),
-            0x14 => self.flags = self.flags.kept_by_status_1(value),
+            DELAY..=DELAY_END => self.delay = delay_with(self.delay, address - DELAY, value),
+            0x14 => self.flags = kept_by_status_1(self.flags, value),
             0x29 => self.switches = switches_byte(value),
-            0x2A => self.flags = self.flags.kept_by_status_2(value),
+            0x2A => self.flags = kept_by_status_2(self.flags, value),
             0x40..=0x5F => self.user[address as usize - USER] = value,
             _ => {}
         }
@@ -102,18 +110,12 @@ fn switches_byte(byte: u8) -> u8
     byte / 2 * 2 + 1
 }
 
-/// The start delay with another low byte.
-fn delay_low(delay: u16, byte: u8) -> u16
-    ensures { result ≡ delay_low delay byte }
+/// The start delay with another byte i, byte 0 the low one.
+fn delay_with(delay: u16, i: u8, byte: u8) -> u16
+    requires { i < 2 }
+    ensures { result ≡ delay_with delay i byte }
 {
-    let [_, high] = delay.to_le_bytes();
-    u16::from_le_bytes([byte, high])
-}
-
-/// The start delay with another high byte.
-fn delay_high(delay: u16, byte: u8) -> u16
-    ensures { result ≡ delay_high delay byte }
-{
-    let [low, _] = delay.to_le_bytes();
-    u16::from_le_bytes([low, byte])
+    let mut bytes = delay.to_le_bytes();
+    bytes[usize::from(i)] = byte;
+    u16::from_le_bytes(bytes)
 }

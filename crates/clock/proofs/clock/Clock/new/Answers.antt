@@ -2,6 +2,6 @@ use Rattle.std.proofs.Common.{refl}
 use Rattle.clock.specs.Elapsed.{sum_of_first}
 use Rattle.clock.proofs.clock.Clock.new.Goals as goal
 
-pub returns : goal.returns
+pub returns-clause-counted : goal.returns-clause-counted
 unfolding sum_of_first
-returns c = record { value = refl; counted = refl }
+returns-clause-counted c = refl

@@ -1,13 +1,9 @@
-use Rattle.std.proofs.Common.{arith}
-use Rattle.hex_text.proofs.Fronts.{pushed, not_pushed}
+use Rattle.std.proofs.Common.{[], ◌∷◌, ◌++◌, length-append, arith}
+use Rattle.std.proofs.lemmas.List.{take_all, take_at}
+use Rattle.std.proofs.lemmas.Grind.{common_steps}
 use Rattle.hex_text.proofs.short.ShortBytes.push.Goals as goal
 
-pub returns-then-self-lt-CAPACITY : goal.returns-then-self-lt-CAPACITY
-returns-then-self-lt-CAPACITY c =
-    let s = c.args.self.now in
-    pushed 240 s.bytes s.count c.args.byte (omega (arith, s.whole, c.if-self-lt-CAPACITY.true)) s.whole
-
-pub returns-else-self-lt-CAPACITY : goal.returns-else-self-lt-CAPACITY
-returns-else-self-lt-CAPACITY c =
-    let s = c.args.self.now in
-    not_pushed 240 s.bytes s.count c.args.byte c.if-self-lt-CAPACITY.false (omega (arith, s.whole, s.few)) s.whole
+pub returns : goal.returns
+returns c =
+    let old = c.args.self.now.bytes.items in
+    grind (arith, common_steps, take_all 240 (old ++ c.args.byte ∷ []), take_at old (c.args.byte ∷ []) 240, length-append old (c.args.byte ∷ []))

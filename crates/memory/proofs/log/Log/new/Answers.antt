@@ -1,6 +1,5 @@
-use Rattle.std.proofs.Common.{refl}
 use Rattle.memory.proofs.Laws.{no_row}
 use Rattle.memory.proofs.log.Log.new.Goals as goal
 
-pub returns : goal.returns
-returns c = record { place = refl; full = refl; bytes = refl; law = no_row }
+pub returns-clause-law : goal.returns-clause-law
+returns-clause-law c = rw c.at.ensures no_row

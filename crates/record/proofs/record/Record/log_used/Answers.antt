@@ -7,5 +7,5 @@ use Rattle.record.proofs.record.Record.log_used.Goals as goal
 pub returns : goal.returns
 returns c =
     let log = c.args.self.now.log in
-    let value : c.used.result ≡ used_of log.next log.full = search rules in
+    let value : c.used.result ≡ used_of log.ring.next log.full = search rules in
     record { value = value; law = λ rules sets memory h stands. value ∙ used {k = seen c.args.self.now memory} rules sets h stands }
