@@ -22,14 +22,14 @@ impl Bench {
     pub(crate) fn new() -> Result<Bench, Refusal> {
         let mut log = [0; Log::BYTES];
         let mut journal = [JournalEntry::blank(); Journal::ENTRIES];
-        match Recorder::make(&mut log, &mut journal, Asynchronous::new(), SERIAL) {
-            Ok(recorder) => Ok(Bench {
-                recorder,
-                log,
-                journal,
-            }),
-            Err(not_made) => Err(not_made.refusal),
-        }
+        let recorder = Recorder::make(&mut log, &mut journal, Asynchronous::new(), SERIAL).map_err(
+            |not_made| not_made.refusal,
+        )?;
+        Ok(Bench {
+            recorder,
+            log,
+            journal,
+        })
     }
 
     /// Performs a call, and answers with a line.

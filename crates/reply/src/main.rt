@@ -39,10 +39,7 @@ fn show_trip<L: Line>(rt: &HostRuntime, name: &str, line: &mut L, page: &[u8]) -
     println!(rt; "  send: ok")?;
     let mut wire = [0; WIRE_BYTES];
     match line.collect(&mut wire) {
-        Ok(count) => match wire.get_mut(0..count) {
-            Some(sent) => show_far_end::<L>(rt, sent),
-            None => Ok(()),
-        },
+        Ok(count) => show_far_end::<L>(rt, &mut wire[0..count]),
         Err(refusal) => show_refusal(rt, "collect", refusal),
     }
 }
@@ -62,10 +59,7 @@ fn show_far_end<L: Line>(rt: &HostRuntime, sent: &mut [u8]) -> io::Result<()> {
 fn show_check<L: Line>(rt: &HostRuntime, sent: &[u8]) -> io::Result<()> {
     let mut data = [0; REPLY_BYTES];
     match L::check(sent, &mut data) {
-        Ok(count) => match data.get(0..count) {
-            Some(bytes) => show_bytes(rt, "check", bytes),
-            None => Ok(()),
-        },
+        Ok(count) => show_bytes(rt, "check", &data[0..count]),
         Err(refusal) => show_refusal(rt, "check", refusal),
     }
 }

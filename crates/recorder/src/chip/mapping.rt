@@ -23,7 +23,7 @@ const PAGE_SIZE: u16 = PAGE_BYTES as u16;
 fn is_in_total(address: u16) -> bool
     ensures { result ≡ within 0x1D 0x1F address }
 {
-    address >= TOTAL && address <= TOTAL_END
+    matches!(address, TOTAL..=TOTAL_END)
 }
 
 /// Whether the record stands at the address: its start, its alarm records, its bins or its log.

@@ -1,5 +1,5 @@
 //! The calls on a recorder. Each that takes memories is lent a log of 2,048 bytes and a journal of 16 entries, and refuses others.
-ghost use Rattle.std.specs.Prelude.{◌≡◌, ℕ, Bool, true, false, List, length, is_ok, if◌then◌else◌, MatchResult};
+ghost use Rattle.std.specs.Prelude.{◌≡◌, ℕ, Bool, true, false, List, length, is_ok, if◌then◌else◌, Ok, Err, MatchResult};
 ghost use Rattle.line.specs.Collecting.{collect_answer, over};
 ghost use Rattle.line.specs.Reply.{emptied};
 ghost use Rattle.memory.specs.Serving.{serves};
@@ -16,6 +16,17 @@ use memory::{JournalEntry, can_serve};
 use mission::Codes;
 use refusal::Refusal;
 use registers::SERIAL_BYTES;
+
+/// Refuses memories of which one has a wrong length.
+fn judge_memories(log: &[u8], journal: &[JournalEntry]) -> Result<(), Refusal>
+    ensures { result ≡ (if serves (length log.now) (length journal.now) then Ok tt else Err Refusal.MemoryLength) }
+{
+    if can_serve(log.len(), journal.len()) {
+        Ok(())
+    } else {
+        Err(Refusal::MemoryLength)
+    }
+}
 
 impl<L: Line> Recorder<L> {
     /// A recorder with this serial number, over the line. Both memories are emptied, and the line is opened.
@@ -49,9 +60,7 @@ impl<L: Line> Recorder<L> {
         ensures after { seen L.meaning self.new log.new journal.new ≡ byte_after (seen L.meaning self.old log.old journal.old) byte }
         ensures kept { serves (length log.old) (length journal.old) ≡ false → (self.new ≡ self.old) × (log.new ≡ log.old) × (journal.new ≡ journal.old) }
     {
-        if !can_serve(log.len(), journal.len()) {
-            return Err(Refusal::MemoryLength);
-        }
+        judge_memories(log, journal)?;
         if self.line.waits() {
             return Err(Refusal::ReplyWaits);
         }
@@ -76,9 +85,7 @@ impl<L: Line> Recorder<L> {
         ensures after { seen L.meaning self.new log.new journal.new ≡ second_after (seen L.meaning self.old log.old journal.old) codes }
         ensures kept { serves (length log.old) (length journal.old) ≡ false → (self.new ≡ self.old) × (log.new ≡ log.old) × (journal.new ≡ journal.old) }
     {
-        if !can_serve(log.len(), journal.len()) {
-            return Err(Refusal::MemoryLength);
-        }
+        judge_memories(log, journal)?;
         let code = codes.temperature;
         if code > TemperatureCode::TOP {
             return Err(Refusal::BadTemperature { code });
@@ -93,9 +100,7 @@ impl<L: Line> Recorder<L> {
         ensures after { seen L.meaning self.new log.new journal.new ≡ press_after (seen L.meaning self.old log.old journal.old) }
         ensures kept { serves (length log.old) (length journal.old) ≡ false → (self.new ≡ self.old) × (log.new ≡ log.old) × (journal.new ≡ journal.old) }
     {
-        if !can_serve(log.len(), journal.len()) {
-            return Err(Refusal::MemoryLength);
-        }
+        judge_memories(log, journal)?;
         Ok(self.chip.control.press(journal))
     }
 
