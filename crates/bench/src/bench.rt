@@ -96,10 +96,7 @@ mod tests {
     };
 
     fn bench() -> Result<Bench, Fail> {
-        match Bench::new() {
-            Ok(bench) => Ok(bench),
-            Err(_) => Err(Fail::new("no recorder was made")),
-        }
+        Ok(Bench::new().ok().ok_or("no recorder was made")?)
     }
 
     // Sends bytes, each of which is accepted.
@@ -117,13 +114,9 @@ mod tests {
         answer: Result<T, Refusal>,
         number: u8,
     ) -> Result<(), Fail> {
-        match answer {
-            Ok(_) => Err(Fail::new("accepted")),
-            Err(refusal) => {
-                assert_eq!(rt; refusal.number(), number);
-                Ok(())
-            },
-        }
+        let refusal = answer.err().ok_or("accepted")?;
+        assert_eq!(rt; refusal.number(), number);
+        Ok(())
     }
 
     #[test]
@@ -186,15 +179,13 @@ mod tests {
     }
 
     #[test]
-    fn making_over_a_short_log_is_refused(rt: HostRuntime) {
+    fn making_over_a_short_log_is_refused(rt: HostRuntime) -> Result<(), Fail> {
         let mut log = [0xEE; Log::BYTES - 1];
         let mut journal = [JournalEntry::blank(); Journal::ENTRIES];
         let made = Recorder::make(&mut log, &mut journal, Asynchronous::new(), SERIAL);
-        let refused = match made {
-            Ok(_) => 0,
-            Err(not_made) => not_made.refusal.number(),
-        };
-        assert_eq!(rt; refused, 1);
+        let not_made = made.err().ok_or("made")?;
+        assert_eq!(rt; not_made.refusal.number(), 1);
         assert_eq!(rt; log, [0xEE; Log::BYTES - 1]);
+        Ok(())
     }
 }
