@@ -7,8 +7,10 @@ pub mod line;
 pub mod sending;
 pub mod store;
 pub mod three_wire;
+pub mod wires;
 
 pub use asynchronous::Asynchronous;
 pub use line::{Line, REPLY_BYTES, WIRE_BYTES};
 pub use sending::{round_trip, send};
 pub use three_wire::ThreeWire;
+pub use wires::wires_stand;

@@ -1,4 +1,4 @@
--- The row of a set: with a channel on there is one, and it has the width that the channels give.
+-- The row of a set: with a channel on it has the width that the channels give.
 use Rattle.std.proofs.Common.{◌≡◌, true, arith}
 use Rattle.std.proofs.lemmas.Bool.Decides.{nat_tests}
 use Rattle.memory.specs.Rows.{width_of}
